@@ -1,3 +1,5 @@
 pub mod Bytes
 pub mod Records
 pub mod Types
+pub mod Nodes
+pub mod Views

@@ -1,6 +1,7 @@
 // Little-endian numbers and bits, read where they stand: one load for one number.
-ghost use Prim.Native.Nat.{_+_, _/_, _<_, _≤_};
+ghost use Prim.Native.Nat.{_*_, _+_, _/_, _<_, _≤_};
 ghost use Rattle.layout.specs.Bytes.{bit, field, negative, wide};
+ghost use Rattle.layout.specs.Nodes.{element};
 ghost use lib.ListN.{length};
 ghost use mathlib.Core.Path.{_≡_};
 
@@ -86,4 +87,12 @@ pub fn bit_at(bytes: &[u8], place: usize, index: usize) -> bool
     ensures { λ r. ⌜ r ≡ bit (now (bytes .entry)) place index ⌝ }
 {
     (bytes[place + index / 8] >> (index % 8)) % 2 == 1
+}
+
+// An element of a buffer of numbers of one width.
+pub fn element_at(width: Width, bytes: &[u8], place: usize, index: usize) -> u64
+    requires { ⌜ place + wide width * index + wide width ≤ length (now bytes) ⌝ }
+    ensures { λ r. ⌜ r ≡ element width (now (bytes .entry)) place index ⌝ }
+{
+    word_at(width, bytes, place + width.bytes() as usize * index)
 }

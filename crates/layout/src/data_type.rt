@@ -1,4 +1,5 @@
 // The type of a column, by the Arrow Columnar Format.
+ghost use Rattle.layout.specs.Nodes.{listed, reads-nulls, table};
 ghost use Rattle.layout.specs.Types.{data-type, width};
 ghost use mathlib.Core.Path.{_≡_};
 use crate::bytes::Width;
@@ -21,6 +22,52 @@ pub enum DataType {
     Map,
     FixedSizeList(u32),
     RunEnd(Width),
+}
+
+// What a node's TAB lists: children, of which there are so many at least and at most, or places
+// and lengths of data buffers, of which there are so many at most.
+#[derive(Clone, Copy)]
+pub enum Table {
+    Unread,
+    Children(u32, u32),
+    Pairs(u32),
+}
+
+impl DataType {
+    pub fn table(self) -> Table
+        ensures { λ r. ⌜ r ≡ table self ⌝ }
+    {
+        match self {
+            DataType::View => Table::Pairs(65_535),
+            DataType::Struct => Table::Children(0, 255),
+            DataType::Map => Table::Children(2, 2),
+            DataType::Dictionary(_, _)
+            | DataType::List(_)
+            | DataType::ListView(_)
+            | DataType::FixedSizeList(_)
+            | DataType::RunEnd(_) => Table::Children(1, 1),
+            _ => Table::Unread,
+        }
+    }
+
+    // Whether NULLS is read: rows of the other two types are never marked null.
+    pub fn reads_nulls(self) -> bool
+        ensures { λ r. ⌜ r ≡ reads-nulls self ⌝ }
+    {
+        !matches!(self, DataType::Null | DataType::RunEnd(_))
+    }
+}
+
+impl Table {
+    // How many of its entries are children.
+    pub fn listed(self, count: u32) -> u32
+        ensures { λ r. ⌜ r ≡ listed self count ⌝ }
+    {
+        match self {
+            Table::Children(_, _) => count,
+            _ => 0,
+        }
+    }
 }
 
 impl Width {

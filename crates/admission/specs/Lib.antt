@@ -1,0 +1,3 @@
+pub mod Rejections
+pub mod FirstFault
+pub mod Seams
