@@ -1,2 +1,5 @@
 pub mod Below
+pub mod Links
 pub mod Reached
+pub mod Scan
+pub mod Typed

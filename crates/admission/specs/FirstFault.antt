@@ -24,17 +24,21 @@ bad-header bytes =
     || (eqb (nodes bytes) 0
         || (ltb 256 (nodes bytes) || (ltb (length bytes) (4 + 36 * nodes bytes) || ltb 1073741824 (length bytes))))
 
+-- the first of 7 to 10 that applies to a node of a type
+abbrev pub buffer-fault : List ℕ → DataType → Record → Option ℕ
+buffer-fault bytes t r =
+    cond (bad-buffer bytes t r) (Some 7)
+    (cond (bad-order bytes t r) (Some 8)
+    (cond (out-of-reach bytes t r) (Some 9)
+    (cond (bad-views bytes t r) (Some 10) None)))
+
 -- the first of 3 to 10 that applies to a node of a type
 abbrev pub typed-fault : List ℕ → ℕ → DataType → Record → Option ℕ
 typed-fault bytes node t r =
     cond (too-long r) (Some 3)
     (cond (bad-table (length bytes) (table t) r) (Some 4)
     (cond (bad-child bytes node (table t) r) (Some 5)
-    (cond (too-high bytes node) (Some 6)
-    (cond (bad-buffer bytes t r) (Some 7)
-    (cond (bad-order bytes t r) (Some 8)
-    (cond (out-of-reach bytes t r) (Some 9)
-    (cond (bad-views bytes t r) (Some 10) None)))))))
+    (cond (too-high bytes node) (Some 6) (buffer-fault bytes t r))))
 
 -- the first of 2 to 10 that applies to a node; 2: KIND, P, or B of a dictionary is not in the table of types
 abbrev pub node-fault : List ℕ → ℕ → Option ℕ

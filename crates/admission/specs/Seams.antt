@@ -50,9 +50,13 @@ View-there bytes r row =
        → (r .tab + 8 * view-buffer bytes (view-place r row) + 8 ≤ length bytes)
          × (buffer-place bytes r (view-buffer bytes (view-place r row)) + view-offset bytes (view-place r row) + 4 ≤ length bytes))
 
+-- a number is the height of a node
+abbrev pub Height-of : List ℕ → ℕ → ℕ → Type 0
+Height-of bytes node height = (h : ℕ) → higher bytes h node ≡ ltb h height
+
 -- the table of heights is right from a node on
 abbrev pub Heights : List ℕ → ℕ → List ℕ → Type 0
-Heights bytes from heights = (c : ℕ) → from ≤ c → c < nodes bytes → ((h : ℕ) → higher bytes h c ≡ ltb h (getD heights c 0)) × (getD heights c 0 ≤ 16)
+Heights bytes from heights = (c : ℕ) → from ≤ c → c < nodes bytes → Height-of bytes c (getD heights c 0)
 
 -- the greatest of the heights of the children below k, as a table has them
 abbrev pub highest : List ℕ → List ℕ → Record → ℕ → ℕ
