@@ -1,0 +1,3 @@
+pub mod Slot
+pub mod Read
+pub mod Values

@@ -1,0 +1,45 @@
+ghost use Rattle.admission.specs.FirstFault.{fault-of, first-fault};
+ghost use Rattle.layout.specs.Records.{nodes};
+ghost use Rattle.std.specs.Results.{Cases};
+ghost use mathlib.Core.List.{[]};
+ghost use mathlib.Core.Path.{_≡_};
+use crate::place::Image;
+use admission::check::check_image;
+use admission::fault::ImageFault;
+use layout::bytes::u32_at;
+
+impl<'a> Image<'a> {
+    // The empty image, which has no nodes.
+    pub fn empty() -> Image<'a>
+        ensures { λ r. ⌜ now (r .bytes) ≡ [] ⌝ }
+    {
+        Image { bytes: &[] }
+    }
+
+    // Puts the bytes here if they have no fault; else the image that was here stays.
+    pub fn admit(&mut self, bytes: &'a [u8]) -> Result<(), ImageFault>
+        ensures fault { λ r. ⌜ fault-of r ≡ first-fault (now (bytes .entry)) ⌝ }
+        ensures place { λ r. ⌜ Cases r (λ _. now (now (self .exit) .bytes) ≡ now (bytes .entry)) (λ _. now (self .exit) ≡ now (self .entry)) ⌝ }
+    {
+        check_image(bytes)?;
+        self.bytes = bytes;
+        Ok(())
+    }
+
+    // The image's bytes.
+    pub fn bytes(&self) -> &'a [u8]
+        ensures { λ r. ⌜ now r ≡ now (now (self .entry) .bytes) ⌝ }
+    {
+        self.bytes
+    }
+
+    // How many nodes the image has.
+    pub fn node_count(&self) -> u32
+        ensures { λ r. ⌜ r ≡ nodes (now (now (self .entry) .bytes)) ⌝ }
+    {
+        if self.bytes.len() == 0 {
+            return 0;
+        }
+        u32_at(self.bytes, 0)
+    }
+}

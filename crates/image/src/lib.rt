@@ -1,0 +1,4 @@
+// The image place, and the slots of an image.
+pub mod place;
+pub mod value;
+pub mod admit;
