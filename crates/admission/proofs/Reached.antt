@@ -68,7 +68,4 @@ module _ (bytes : List ℕ) (r : Record) (linked : Linked bytes View r) (inside 
   view-there reached row h =
       (bit-held bytes r row h (bitmap-passed bytes View r inside),
        view-inside row h,
-       λ p q.
-         let view : ℕ = view-place r row in
-         let parts = long-inside row view (none-at (r .rows) (λ row. bad-reference bytes r row (view-place r row)) row reached h) p q in
-         (parts .0, omega (arith, parts .1, ltb-true 12 (view-length bytes view) q)))
+       long-inside row (view-place r row) (none-at (r .rows) (λ row. bad-reference bytes r row (view-place r row)) row reached h))

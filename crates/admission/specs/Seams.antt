@@ -12,7 +12,7 @@ use Rattle.layout.specs.declared.data_type.DataType.the-variants.{Null, Boolean
 use Rattle.layout.specs.Bytes.{wide}
 use Rattle.layout.specs.Nodes.{Child-there, Holds-bit, child, marked}
 use Rattle.layout.specs.Records.{nodes, elements}
-use Rattle.layout.specs.Views.{view-place, is-long, view-buffer, view-offset, buffer-place}
+use Rattle.layout.specs.Views.{view-place, view-length, is-long, view-buffer, view-offset, buffer-place}
 use Rattle.admission.specs.Rejections.{higher}
 
 -- every record is there
@@ -41,14 +41,14 @@ Linked bytes (RunEnd w) r = Child-there bytes r 0
 abbrev pub Element-there : Width → List ℕ → ℕ → ℕ → Type 0
 Element-there w bytes place k = place + wide w * k + wide w ≤ length bytes
 
--- a view can be read, and where it is long and unmarked its pair and its first four bytes too
+-- a view can be read, and where it is long and unmarked its pair and its bytes too
 abbrev pub View-there : List ℕ → Record → ℕ → Type 0
 View-there bytes r row =
     Holds-bit bytes r row
     × (view-place r row + 16 ≤ length bytes)
     × (marked bytes r row ≡ false → is-long bytes (view-place r row) ≡ true
        → (r .tab + 8 * view-buffer bytes (view-place r row) + 8 ≤ length bytes)
-         × (buffer-place bytes r (view-buffer bytes (view-place r row)) + view-offset bytes (view-place r row) + 4 ≤ length bytes))
+         × (buffer-place bytes r (view-buffer bytes (view-place r row)) + view-offset bytes (view-place r row) + view-length bytes (view-place r row) ≤ length bytes))
 
 -- a number is the height of a node
 abbrev pub Height-of : List ℕ → ℕ → ℕ → Type 0

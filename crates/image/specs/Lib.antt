@@ -1,3 +1,4 @@
 pub mod Slot
 pub mod Read
+pub mod Seams
 pub mod Values

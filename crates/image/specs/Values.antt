@@ -79,6 +79,10 @@ abbrev pub value-answer : List ℕ → ℕ → ℕ → Result Value ℕ
 value-answer bytes node row =
     cond (ltb node (nodes bytes)) (cond (ltb row (record-at bytes node .rows)) (Ok (value-at bytes node row)) (Err 17)) (Err 13)
 
+-- the record of a node, where there is such a node
+abbrev pub node-record : List ℕ → ℕ → Option Record
+node-record bytes node = cond (ltb node (nodes bytes)) (Some (record-at bytes node)) None
+
 -- the cases of the reader's enum
 abbrev pub told : SlotValue → Value
 told variant.Null = null-mark

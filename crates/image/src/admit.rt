@@ -1,4 +1,5 @@
 ghost use Rattle.admission.specs.FirstFault.{fault-of, first-fault};
+ghost use Rattle.image.specs.Values.{node-record};
 ghost use Rattle.layout.specs.Records.{nodes};
 ghost use Rattle.std.specs.Results.{Cases};
 ghost use mathlib.Core.List.{[]};
@@ -7,6 +8,7 @@ use crate::place::Image;
 use admission::check::check_image;
 use admission::fault::ImageFault;
 use layout::bytes::u32_at;
+use layout::record::Record;
 
 impl<'a> Image<'a> {
     // The empty image, which has no nodes.
@@ -41,5 +43,15 @@ impl<'a> Image<'a> {
             return 0;
         }
         u32_at(self.bytes, 0)
+    }
+
+    // The record of a node, or none where there is no such node.
+    pub fn node(&self, node: u64) -> Option<Record>
+        ensures { λ r. ⌜ r ≡ node-record (now (now (self .entry) .bytes)) node ⌝ }
+    {
+        if node >= u64::from(self.node_count()) {
+            return None;
+        }
+        Some(Record::read(self.bytes, node as usize))
     }
 }

@@ -1,4 +1,6 @@
 // What the slot reader answers.
+ghost use Rattle.image.specs.Values.{refusal};
+ghost use mathlib.Core.Path.{_≡_};
 use layout::bytes::Width;
 
 // A slot as it is handed out: bytes are a part of the image, with their place.
@@ -18,4 +20,16 @@ pub enum SlotValue<'a> {
 pub enum SlotFault {
     NoNode,
     NoRow,
+}
+
+impl SlotFault {
+    // The rejection's number.
+    pub fn number(self) -> u32
+        ensures { λ r. ⌜ r ≡ refusal self ⌝ }
+    {
+        match self {
+            SlotFault::NoNode => 13,
+            SlotFault::NoRow => 17,
+        }
+    }
 }
