@@ -2,4 +2,5 @@ pub mod Below
 pub mod Links
 pub mod Reached
 pub mod Scan
+pub mod Sound
 pub mod Typed

@@ -1,0 +1,3 @@
+pub mod Children
+pub mod Readable
+pub mod Told

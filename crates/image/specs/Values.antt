@@ -12,6 +12,7 @@ use Rattle.layout.specs.declared.record.Record.{Record}
 use Rattle.layout.specs.declared.data_type.DataType.{DataType}
 use Rattle.layout.specs.declared.data_type.DataType.the-variants.{Null, Boolean, Number, Float, Utf8, Binary, FixedSizeBinary, View, Dictionary, Struct, List as ListOf, ListView, Map, FixedSizeList, RunEnd}
 use Rattle.layout.specs.Bytes.{wide}
+use Rattle.layout.specs.Nodes.{child, child-count}
 use Rattle.layout.specs.Records.{nodes, record-at}
 use Rattle.layout.specs.Types.{data-type}
 use Rattle.layout.specs.Views.{view-place}
@@ -82,6 +83,14 @@ value-answer bytes node row =
 -- the record of a node, where there is such a node
 abbrev pub node-record : List ℕ → ℕ → Option Record
 node-record bytes node = cond (ltb node (nodes bytes)) (Some (record-at bytes node)) None
+
+-- the node number of a child, where there is such a child
+abbrev pub child-of : List ℕ → Option Record → ℕ → Option ℕ
+child-of bytes None index = None
+child-of bytes (Some r) index = cond (ltb index (child-count (data-type r) r)) (Some (child bytes r index)) None
+
+abbrev pub node-child : List ℕ → ℕ → ℕ → Option ℕ
+node-child bytes node index = child-of bytes (node-record bytes node) index
 
 -- the cases of the reader's enum
 abbrev pub told : SlotValue → Value

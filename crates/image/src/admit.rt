@@ -1,5 +1,5 @@
 ghost use Rattle.admission.specs.FirstFault.{fault-of, first-fault};
-ghost use Rattle.image.specs.Values.{node-record};
+ghost use Rattle.image.specs.Values.{node-child, node-record};
 ghost use Rattle.layout.specs.Records.{nodes};
 ghost use Rattle.std.specs.Results.{Cases};
 ghost use mathlib.Core.List.{[]};
@@ -53,5 +53,16 @@ impl<'a> Image<'a> {
             return None;
         }
         Some(Record::read(self.bytes, node as usize))
+    }
+
+    // The node number of a child, or none where there is no such node or child.
+    pub fn child(&self, node: u64, index: u64) -> Option<u32>
+        ensures { λ r. ⌜ r ≡ node-child (now (now (self .entry) .bytes)) node index ⌝ }
+    {
+        let r = self.node(node)?;
+        if index >= u64::from(r.child_count()) {
+            return None;
+        }
+        Some(r.child(self.bytes, index as u32))
     }
 }

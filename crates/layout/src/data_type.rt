@@ -1,5 +1,5 @@
 // The type of a column, by the Arrow Columnar Format.
-ghost use Rattle.layout.specs.Nodes.{listed, reads-nulls, table};
+ghost use Rattle.layout.specs.Nodes.{child-count, listed, reads-nulls, table};
 ghost use Rattle.layout.specs.Types.{data-type, width};
 ghost use mathlib.Core.Path.{_≡_};
 use crate::bytes::Width;
@@ -108,6 +108,16 @@ impl Record {
             15 if p <= 65_535 => Some(DataType::FixedSizeList(p)),
             16 => Some(DataType::RunEnd(Width::of(p, 2)?)),
             _ => None,
+        }
+    }
+
+    // How many children a node has, none where it has no type.
+    pub fn child_count(&self) -> u32
+        ensures { λ r. ⌜ r ≡ child-count (data-type (now (self .entry))) (now (self .entry)) ⌝ }
+    {
+        match self.data_type() {
+            Some(data_type) => data_type.table().listed(self.cnt),
+            None => 0,
         }
     }
 }
