@@ -65,7 +65,8 @@ module _ (bytes : List ℕ) (r : Record) (linked : Linked bytes View r) (inside 
       (linked (view-buffer bytes view) (parts .0), omega (arith, parts .1, buffer-inside (view-buffer bytes view) (parts .0)))
 
   pub view-there : out-of-reach bytes View r ≡ false → (row : ℕ) → row < r .rows → View-there bytes r row
-  view-there reached row h =
-      (bit-held bytes r row h (bitmap-passed bytes View r inside),
-       view-inside row h,
-       long-inside row (view-place r row) (none-at (r .rows) (λ row. bad-reference bytes r row (view-place r row)) row reached h))
+  view-there reached row h = (
+    bit-held bytes r row h (bitmap-passed bytes View r inside),
+    view-inside row h,
+    long-inside row (view-place r row) (none-at (r .rows) (λ row. bad-reference bytes r row (view-place r row)) row reached h),
+  )

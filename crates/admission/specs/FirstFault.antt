@@ -22,7 +22,7 @@ abbrev pub bad-header : List ℕ → Bool
 bad-header bytes =
     ltb (length bytes) 4
     || (eqb (nodes bytes) 0
-        || (ltb 256 (nodes bytes) || (ltb (length bytes) (4 + 36 * nodes bytes) || ltb 1073741824 (length bytes))))
+    || (ltb 256 (nodes bytes) || (ltb (length bytes) (4 + 36 * nodes bytes) || ltb 1073741824 (length bytes))))
 
 -- the first of 7 to 10 that applies to a node of a type
 abbrev pub buffer-fault : List ℕ → DataType → Record → Option ℕ

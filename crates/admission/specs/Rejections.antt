@@ -77,8 +77,8 @@ abbrev pub bad-offsets : Width → List ℕ → Record → Bool
 bad-offsets w bytes r =
     negative w (element w bytes (r .a) (r .start))
     || some-below (r .rows) (λ k.
-        negative w (element w bytes (r .a) (r .start + k + 1))
-        || ltb (element w bytes (r .a) (r .start + k + 1)) (element w bytes (r .a) (r .start + k)))
+    negative w (element w bytes (r .a) (r .start + k + 1))
+    || ltb (element w bytes (r .a) (r .start + k + 1)) (element w bytes (r .a) (r .start + k)))
 
 -- the run end before a run, 0 before the first
 abbrev pub end-before : Width → List ℕ → Record → ℕ → ℕ
@@ -117,23 +117,23 @@ abbrev pub bad-key : List ℕ → Width → Bool → Record → ℕ → Bool
 bad-key bytes w signed r row =
     not (marked bytes r row)
     && ((signed && negative w (element w bytes (r .a) (r .start + row)))
-        || leb (child-rows bytes r 0) (element w bytes (r .a) (r .start + row)))
+    || leb (child-rows bytes r 0) (element w bytes (r .a) (r .start + row)))
 
 -- a list view whose offset or size is negative, or that ends past the child's rows
 abbrev pub bad-list-view : List ℕ → Width → Record → ℕ → Bool
 bad-list-view bytes w r row =
     not (marked bytes r row)
     && (negative w (element w bytes (r .a) (r .start + row))
-        || (negative w (element w bytes (r .b) (r .start + row))
-            || ltb (child-rows bytes r 0) (element w bytes (r .a) (r .start + row) + element w bytes (r .b) (r .start + row))))
+    || (negative w (element w bytes (r .b) (r .start + row))
+    || ltb (child-rows bytes r 0) (element w bytes (r .a) (r .start + row) + element w bytes (r .b) (r .start + row))))
 
 -- a long view that names no pair, or ends past its data buffer
 abbrev pub bad-reference : List ℕ → Record → ℕ → ℕ → Bool
 bad-reference bytes r row view =
     not (marked bytes r row)
     && (is-long bytes view
-        && (leb (r .cnt) (view-buffer bytes view)
-            || ltb (buffer-length bytes r (view-buffer bytes view)) (view-offset bytes view + view-length bytes view)))
+    && (leb (r .cnt) (view-buffer bytes view)
+    || ltb (buffer-length bytes r (view-buffer bytes view)) (view-offset bytes view + view-length bytes view)))
 
 -- no run covers the last element
 abbrev pub bad-runs : List ℕ → Width → Record → Bool

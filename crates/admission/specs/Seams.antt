@@ -47,8 +47,8 @@ View-there bytes r row =
     Holds-bit bytes r row
     × (view-place r row + 16 ≤ length bytes)
     × (marked bytes r row ≡ false → is-long bytes (view-place r row) ≡ true
-       → (r .tab + 8 * view-buffer bytes (view-place r row) + 8 ≤ length bytes)
-         × (buffer-place bytes r (view-buffer bytes (view-place r row)) + view-offset bytes (view-place r row) + view-length bytes (view-place r row) ≤ length bytes))
+    → (r .tab + 8 * view-buffer bytes (view-place r row) + 8 ≤ length bytes)
+    × (buffer-place bytes r (view-buffer bytes (view-place r row)) + view-offset bytes (view-place r row) + view-length bytes (view-place r row) ≤ length bytes))
 
 -- a number is the height of a node
 abbrev pub Height-of : List ℕ → ℕ → ℕ → Type 0

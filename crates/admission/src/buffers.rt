@@ -68,7 +68,13 @@ fn is_bad_values(bytes: &[u8], data_type: DataType, r: &Record) -> bool
         DataType::FixedSizeBinary(size) => is_buffer_outside(bytes, r.a, size, elements),
         DataType::View => {
             is_buffer_outside(bytes, r.a, 16, elements)
-                || fails_below(&DataBuffers { bytes, tab: r.tab as usize }, r.cnt)
+                || fails_below(
+                    &DataBuffers {
+                        bytes,
+                        tab: r.tab as usize,
+                    },
+                    r.cnt,
+                )
         }
         DataType::ListView(w) => {
             is_buffer_outside(bytes, r.a, w.bytes(), elements)
@@ -82,11 +88,12 @@ fn is_bad_values(bytes: &[u8], data_type: DataType, r: &Record) -> bool
 }
 
 // The bitmap, a buffer or a view's data buffer that is not inside.
-pub fn is_bad_buffer(bytes: &[u8], data_type: DataType, r: &Record) -> bool
+pub(crate) fn is_bad_buffer(bytes: &[u8], data_type: DataType, r: &Record) -> bool
     requires short { ⌜ too-long (now r) ≡ false ⌝ }
     requires linked { ⌜ Linked (now bytes) «data_type» (now r) ⌝ }
     ensures { λ b. ⌜ b ≡ bad-buffer (now (bytes .entry)) «data_type» (now (r .entry)) ⌝ }
 {
     let has_bitmap = data_type.reads_nulls() && r.nulls != 0;
-    has_bitmap && is_bitmap_outside(bytes, r.nulls, r.elements()) || is_bad_values(bytes, data_type, r)
+    has_bitmap && is_bitmap_outside(bytes, r.nulls, r.elements())
+        || is_bad_values(bytes, data_type, r)
 }

@@ -22,7 +22,9 @@ use layout::data_type::DataType;
 use layout::record::Record;
 
 const MAX_BYTES: usize = 1_073_741_824;
+
 const MAX_NODES: u32 = 256;
+
 const MAX_HEIGHT: u8 = 16;
 
 // The first fault of a node's buffers.

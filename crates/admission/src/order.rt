@@ -44,7 +44,15 @@ fn is_bad_offsets(width: Width, bytes: &[u8], r: &Record) -> bool
 {
     let place = r.a as usize;
     width.negative(element_at(width, bytes, place, r.start as usize))
-        || fails_below(&Offsets { bytes, width, place, start: r.start }, r.rows)
+        || fails_below(
+            &Offsets {
+                bytes,
+                width,
+                place,
+                start: r.start,
+            },
+            r.rows,
+        )
 }
 
 #[derive(Drop)]
@@ -67,7 +75,7 @@ impl Test for RunEnds<'_> as RunEndsTest {
 }
 
 // The run end before a run, 0 before the first.
-pub fn end_before(width: Width, bytes: &[u8], r: &Record, run: u32) -> u64
+pub(crate) fn end_before(width: Width, bytes: &[u8], r: &Record, run: u32) -> u64
     requires { ⌜ now r .a + wide width * run ≤ length (now bytes) ⌝ }
     ensures { λ end. ⌜ end ≡ end-before width (now (bytes .entry)) (now (r .entry)) run ⌝ }
 {
@@ -83,11 +91,18 @@ fn is_bad_run_ends(width: Width, bytes: &[u8], r: &Record) -> bool
     ensures { λ b. ⌜ b ≡ bad-run-ends width (now (bytes .entry)) (now (r .entry)) ⌝ }
 {
     let runs = r.child_rows(bytes, 0);
-    fails_below(&RunEnds { bytes, width, r: *r }, runs)
+    fails_below(
+        &RunEnds {
+            bytes,
+            width,
+            r: *r,
+        },
+        runs,
+    )
 }
 
 // Offsets or run ends that are out of order.
-pub fn is_bad_order(bytes: &[u8], data_type: DataType, r: &Record) -> bool
+pub(crate) fn is_bad_order(bytes: &[u8], data_type: DataType, r: &Record) -> bool
     requires linked { ⌜ Linked (now bytes) «data_type» (now r) ⌝ }
     requires inside { ⌜ bad-values (now bytes) «data_type» (now r) ≡ false ⌝ }
     ensures { λ b. ⌜ b ≡ bad-order (now (bytes .entry)) «data_type» (now (r .entry)) ⌝ }

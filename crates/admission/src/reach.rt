@@ -41,7 +41,8 @@ impl Test for Keys<'_> as KeysTest {
         }
         let at = self.r.start as usize + row as usize;
         let key = element_at(self.width, self.bytes, self.r.a as usize, at);
-        self.signed && self.width.negative(key) || u64::from(self.r.child_rows(self.bytes, 0)) <= key
+        self.signed && self.width.negative(key)
+            || u64::from(self.r.child_rows(self.bytes, 0)) <= key
     }
 }
 
@@ -129,7 +130,7 @@ fn last_offset(width: Width, bytes: &[u8], r: &Record) -> u64
 }
 
 // A row that reaches a child row or byte that is not there.
-pub fn is_out_of_reach(bytes: &[u8], data_type: DataType, r: &Record) -> bool
+pub(crate) fn is_out_of_reach(bytes: &[u8], data_type: DataType, r: &Record) -> bool
     requires short { ⌜ too-long (now r) ≡ false ⌝ }
     requires linked { ⌜ Linked (now bytes) «data_type» (now r) ⌝ }
     requires inside { ⌜ bad-buffer (now bytes) «data_type» (now r) ≡ false ⌝ }
@@ -142,16 +143,39 @@ pub fn is_out_of_reach(bytes: &[u8], data_type: DataType, r: &Record) -> bool
         }
         DataType::View => fails_below(&Views { bytes, r: *r }, r.rows),
         DataType::Dictionary(width, signed) => {
-            fails_below(&Keys { bytes, r: *r, width, signed }, r.rows)
+            fails_below(
+                &Keys {
+                    bytes,
+                    r: *r,
+                    width,
+                    signed,
+                },
+                r.rows,
+            )
         }
-        DataType::Struct => fails_below(&Fields { bytes, r: *r, elements }, r.cnt),
+        DataType::Struct => fails_below(
+            &Fields {
+                bytes,
+                r: *r,
+                elements,
+            },
+            r.cnt,
+        ),
         DataType::List(w) => u64::from(r.child_rows(bytes, 0)) < last_offset(w, bytes, r),
-        DataType::ListView(width) => fails_below(&ListViews { bytes, r: *r, width }, r.rows),
+        DataType::ListView(width) => fails_below(
+            &ListViews {
+                bytes,
+                r: *r,
+                width,
+            },
+            r.rows,
+        ),
         DataType::Map => {
             let last = last_offset(Width::Four, bytes, r);
             u64::from(r.child_rows(bytes, 0)) < last || u64::from(r.child_rows(bytes, 1)) < last
         }
-        DataType::FixedSizeList(size) => u64::from(r.child_rows(bytes, 0)) < u64::from(size) * elements,
+        DataType::FixedSizeList(size) => u64::from(r.child_rows(bytes, 0))
+            < u64::from(size) * elements,
         DataType::RunEnd(w) => {
             elements > 0 && end_before(w, bytes, r, r.child_rows(bytes, 0)) < elements
         }

@@ -17,26 +17,26 @@ use layout::record::Record;
 const MAX_ROWS: u32 = 1_048_576;
 
 // Whether so many bytes from a place on do not end within an image of this length.
-pub fn is_outside(len: usize, place: u32, size: u64) -> bool
+pub(crate) fn is_outside(len: usize, place: u32, size: u64) -> bool
     ensures { λ r. ⌜ r ≡ outside len place size ⌝ }
 {
     is_past(len as u64, u64::from(place), size)
 }
 
 // The same of a limit and a place of any size, with no sum that could wrap.
-pub fn is_past(limit: u64, place: u64, size: u64) -> bool
+pub(crate) fn is_past(limit: u64, place: u64, size: u64) -> bool
     ensures { λ r. ⌜ r ≡ outside limit place size ⌝ }
 {
     limit < size || limit - size < place
 }
 
-pub fn is_too_long(r: &Record) -> bool
+pub(crate) fn is_too_long(r: &Record) -> bool
     ensures { λ b. ⌜ b ≡ too-long (now (r .entry)) ⌝ }
 {
     r.rows > MAX_ROWS || r.start > MAX_ROWS
 }
 
-pub fn is_bad_table(len: usize, table: Table, r: &Record) -> bool
+pub(crate) fn is_bad_table(len: usize, table: Table, r: &Record) -> bool
     ensures { λ b. ⌜ b ≡ bad-table len table (now (r .entry)) ⌝ }
 {
     match table {
@@ -68,16 +68,24 @@ impl Test for ChildNumbers<'_> as ChildNumbersTest {
 }
 
 // A child number that is not above the node's own, or not below the node count.
-pub fn is_bad_child(bytes: &[u8], count: u32, node: u32, table: Table, r: &Record) -> bool
+pub(crate) fn is_bad_child(bytes: &[u8], count: u32, node: u32, table: Table, r: &Record) -> bool
     requires count { ⌜ count ≡ nodes (now bytes) ⌝ }
     requires tabled { ⌜ bad-table (length (now bytes)) table (now r) ≡ false ⌝ }
     ensures { λ b. ⌜ b ≡ bad-child (now (bytes .entry)) node table (now (r .entry)) ⌝ }
 {
-    fails_below(&ChildNumbers { bytes, r: *r, node, count }, table.listed(r.cnt))
+    fails_below(
+        &ChildNumbers {
+            bytes,
+            r: *r,
+            node,
+            count,
+        },
+        table.listed(r.cnt),
+    )
 }
 
 // The greatest height of a node's children, 0 without children.
-pub fn highest(bytes: &[u8], heights: &[u8; 256], children: u32, r: &Record) -> u8
+pub(crate) fn highest(bytes: &[u8], heights: &[u8; 256], children: u32, r: &Record) -> u8
     requires { ⌜ ((k : ℕ) → k < children → (now r .tab + 4 * k + 4 ≤ length (now bytes)) × (child (now bytes) (now r) k < 256)) ⌝ }
     ensures { λ h. ⌜ h ≡ highest (now (bytes .entry)) (now (heights .entry)) (now (r .entry)) children ⌝ }
 {

@@ -4,7 +4,7 @@ ghost use Rattle.layout.specs.Nodes.{some-below};
 ghost use mathlib.Core.Bool.{Bool};
 ghost use mathlib.Core.Path.{_≡_};
 
-pub trait Test {
+pub(crate) trait Test {
     // the numbers that it may be asked about
     ghost ready: { Self → ℕ → Type 0 };
 
@@ -17,7 +17,7 @@ pub trait Test {
 }
 
 // Whether the test fails somewhere below a number.
-pub fn fails_below<T: Test>(test: &T, count: u32) -> bool
+pub(crate) fn fails_below<T: Test>(test: &T, count: u32) -> bool
     requires { ⌜ ((k : ℕ) → k < count → T·Test .ready (now test) k) ⌝ }
     ensures { λ r. ⌜ r ≡ some-below count (T·Test .failing (now (test .entry))) ⌝ }
 {

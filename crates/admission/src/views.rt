@@ -36,7 +36,13 @@ fn is_bad_padding(bytes: &[u8], view: usize, size: u32) -> bool
     requires inside { ⌜ view + 16 ≤ length (now bytes) ⌝ }
     ensures { λ r. ⌜ r ≡ bad-padding (now (bytes .entry)) view ⌝ }
 {
-    fails_below(&Padding { bytes, place: view + 4 + size as usize }, 12 - size)
+    fails_below(
+        &Padding {
+            bytes,
+            place: view + 4 + size as usize,
+        },
+        12 - size,
+    )
 }
 
 #[derive(Drop)]
@@ -67,7 +73,7 @@ impl Test for Beginnings<'_> as BeginningsTest {
 }
 
 // An unmarked view with non-zero padding or a prefix unlike its first four bytes.
-pub fn is_bad_views(bytes: &[u8], data_type: DataType, r: &Record) -> bool
+pub(crate) fn is_bad_views(bytes: &[u8], data_type: DataType, r: &Record) -> bool
     requires short { ⌜ too-long (now r) ≡ false ⌝ }
     requires linked { ⌜ Linked (now bytes) «data_type» (now r) ⌝ }
     requires inside { ⌜ bad-buffer (now bytes) «data_type» (now r) ≡ false ⌝ }

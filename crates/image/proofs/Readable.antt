@@ -63,11 +63,12 @@ module _ (bytes : List ℕ) (w : Width) (r : Record) (ordered : bad-offsets w by
   span-there : r .a + wide w * (elements r + 1) ≤ length bytes → r .b + last-offset w bytes r ≤ length bytes → (row : ℕ) → row < r .rows → Span-there w bytes r (r .start + row)
   span-there inside reached row h =
       let last : offset w bytes r (r .start + row + 1) ≤ last-offset w bytes r =
-      subst (λ (m : ℕ). offset w bytes r m ≤ last-offset w bytes r) (omega arith) (below-last (row + 1) (omega arith)) in
-      (one-inside (wide w) (r .a) (r .start + row) (elements r + 1) (length bytes) (omega arith) inside,
-       one-inside (wide w) (r .a) (r .start + row + 1) (elements r + 1) (length bytes) (omega arith) inside,
-       step-up row h,
-       omega (arith, last))
+      subst (λ (m : ℕ). offset w bytes r m ≤ last-offset w bytes r) (omega arith) (below-last (row + 1) (omega arith)) in (
+        one-inside (wide w) (r .a) (r .start + row) (elements r + 1) (length bytes) (omega arith) inside,
+        one-inside (wide w) (r .a) (r .start + row + 1) (elements r + 1) (length bytes) (omega arith) inside,
+        step-up row h,
+        omega (arith, last),
+      )
 
 module _ (bytes : List ℕ) (node row : ℕ) (r : Record) (headed : Headed bytes) (there : row < r .rows) where
   values : (t : DataType) → Passed bytes node t r → bad-values bytes t r ≡ false

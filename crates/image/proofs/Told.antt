@@ -19,7 +19,7 @@ module _ (bytes : List ℕ) (node row : ℕ) where
 
   by-type-is : (x : Record) (o : Option DataType)
       → (elim o as (λ _. Value) [ None ↦ null-mark | Some t ↦ handed-out (x .kind) (bytes-place t bytes x row) (elim o as (λ _. Slot) [ None ↦ null | Some s ↦ typed-slot s bytes x (slot-within 15 bytes) row ]) ])
-        ≡ by-type x o
+      ≡ by-type x o
   by-type-is x None = mathlib.Core.Path.refl
   by-type-is x (Some t) = mathlib.Core.Path.refl
 

@@ -4,7 +4,6 @@ use mathlib.Core.List.{List, [], _∷_}
 use Prim.Native.Nat.{ℕ}
 
 infixr 50 _⨾_
-
 mutual
   pub data Slot : Type 0 where
     -- a row that its node's own bitmap marks null

@@ -20,7 +20,7 @@ record-at bytes node =
       b = field 4 bytes (4 + 36 * node + 20);
       p = field 4 bytes (4 + 36 * node + 24);
       tab = field 4 bytes (4 + 36 * node + 28);
-      cnt = field 4 bytes (4 + 36 * node + 32)
+      cnt = field 4 bytes (4 + 36 * node + 32);
     }
 
 -- S: the elements of a node's buffers, those before its first row and its rows

@@ -50,7 +50,12 @@ pub fn u32_at(bytes: &[u8], place: usize) -> u32
     requires { ⌜ place + 4 ≤ length (now bytes) ⌝ }
     ensures { λ r. ⌜ r ≡ field 4 (now (bytes .entry)) place ⌝ }
 {
-    u32::from_le_bytes([bytes[place], bytes[place + 1], bytes[place + 2], bytes[place + 3]])
+    u32::from_le_bytes([
+        bytes[place],
+        bytes[place + 1],
+        bytes[place + 2],
+        bytes[place + 3],
+    ])
 }
 
 pub fn u64_at(bytes: &[u8], place: usize) -> u64

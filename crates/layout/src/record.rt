@@ -47,7 +47,12 @@ impl Record {
         requires { ⌜ Holds-bit (now bytes) (now self) row ⌝ }
         ensures { λ r. ⌜ r ≡ marked (now (bytes .entry)) (now (self .entry)) row ⌝ }
     {
-        self.nulls != 0 && !bit_at(bytes, self.nulls as usize, self.start as usize + row as usize)
+        self.nulls != 0
+            && !bit_at(
+                bytes,
+                self.nulls as usize,
+                self.start as usize + row as usize,
+            )
     }
 
     // The node number of a child.

@@ -31,7 +31,7 @@ check-buffers-requires c κs =
       linked =
           passed-linked (c .args .bytes .now) (c .args .node) (c .read-r .result) (c .in-Some .data-type) (c .table-table .result) (c .listed .result)
           (c .read-r .ensures) (c .in-Some .ensures tt) (c .table-table .ensures) (c .if-is-too-long .ensures tt) (c .if-is-bad-table .ensures tt) (c .if-is-bad-child .ensures tt)
-          (c .listed .ensures) (c .pre .headed)
+          (c .listed .ensures) (c .pre .headed);
     }
 
 pub returns-in-Break-check-buffers : need.returns-in-Break-check-buffers
@@ -43,7 +43,7 @@ returns-in-Break-check-buffers c =
     let p = err-from-errBy (c .from-residual .result) (c .from-residual .ensures .1) in
     record {
       fault = rw (p .1, p .2) (c .in-Break-check-buffers .ensures tt ∙ sym (ap (λ (o : Option ℕ). at-node o (c .args .node) None) fault));
-      height = rw (p .1) tt
+      height = rw (p .1) tt;
     }
 
 pub returns : need.returns

@@ -19,7 +19,8 @@ pub loop-node-again : need.loop-node-again
 loop-node-again c =
     let node : ℕ = c .loop-node .node - 1 in
     let next : c .loop-node .node ≡ suc node = omega arith in
-    let within : node < length (c .loop-node .heights) = omega (arith, c .loop-node .inv .2) in
-    (c .loop-node .inv .0 ∙ passes (c .args .bytes .now) (c .loop-node .node) node next (c .in-Continue-height .ensures tt .fault),
-     heights-more (c .args .bytes .now) (c .loop-node .node) node next (c .loop-node .heights) (c .in-Continue-height .height) within (c .loop-node .inv .1) (c .in-Continue-height .ensures tt .height),
-     length-set (c .loop-node .heights) node (c .in-Continue-height .height) ∙ c .loop-node .inv .2)
+    let within : node < length (c .loop-node .heights) = omega (arith, c .loop-node .inv .2) in (
+      c .loop-node .inv .0 ∙ passes (c .args .bytes .now) (c .loop-node .node) node next (c .in-Continue-height .ensures tt .fault),
+      heights-more (c .args .bytes .now) (c .loop-node .node) node next (c .loop-node .heights) (c .in-Continue-height .height) within (c .loop-node .inv .1) (c .in-Continue-height .ensures tt .height),
+      length-set (c .loop-node .heights) node (c .in-Continue-height .height) ∙ c .loop-node .inv .2,
+    )
