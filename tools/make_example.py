@@ -18,8 +18,10 @@ import pathlib
 import struct
 import sys
 
-import images
-from images import Builder, bits, children, little, pairs
+sys.dont_write_bytecode = True
+
+import images  # noqa: E402
+from images import Builder, bits, children, little, pairs  # noqa: E402
 
 FILE = pathlib.Path(__file__).resolve().parent.parent / "examples" / "passes.img"
 
