@@ -216,6 +216,19 @@ admit(image(records, children(*range(2, 17)), children(1, 17)), "refused 6 0")
 admit(image(records, children(*range(2, 17)), children(17, 1)), "refused 6 0")
 admit(image(records, children(*range(2, 17)), children(17, 2)), "admitted 18")  # node 2 has 15, so node 0 has 16
 
+# each kind that has children is 1 above them: nodes 1 to 15 or 16 are structs, node 0 stands over node 1.
+# Its table is two child numbers at the end, of which only a map uses both; its buffers, for no rows,
+# are 8 zeros behind them; B, the sizes of a list view or the sign of a dictionary, is 0
+for kind, width, count in [(DICTIONARY, 1, 1), (LIST, 4, 1), (LIST_VIEW, 4, 1), (MAP, 0, 2),
+                           (FIXED_SIZE_LIST, 1, 1), (RUN_END, 2, 1)]:
+    for structs, answer in [(15, "admitted 16"), (16, "refused 6 0")]:
+        tables = 4 + 36 * (structs + 1)
+        top = tables + 4 * structs
+        records = [record(kind, a=top + 8, p=width, tab=top, cnt=count)]
+        records += [record(STRUCT, tab=tables + 4 * n, cnt=1) for n in range(structs - 1)]
+        records += [record(STRUCT)]
+        admit(image(records, children(*range(2, structs + 2)), children(1, 1), bytes(8)), answer)
+
 # ---------------------------------------------------------------------------
 title("7: each buffer whole, then a byte short")
 # bitmap of START 8 and ROWS 1: 9 bits, 2 bytes; 9 values at 40, bitmap at 49
@@ -263,6 +276,8 @@ admit(image([record(MAP, 1, a=84, tab=76, cnt=2), nulls(0)], children(1, 1), byt
 admit(image([record(RUN_END, 1, a=80, p=2, tab=76, cnt=1), nulls(2)], children(1), little(2, 1, 2)), "admitted 2")
 admit(image([record(RUN_END, 1, a=80, p=2, tab=76, cnt=1), nulls(2)], children(1), little(2, 1, 2)[:3]),
       "refused 7 0")
+# a run-end column has no bitmap, whatever NULLS is
+admit(image([record(RUN_END, 1, nulls=U32, a=80, p=2, tab=76, cnt=1), nulls(1)], children(1), little(2, 1)), "admitted 2")
 # bitmaps of kinds that have no buffer of their own
 admit(image([record(STRUCT, 1, nulls=40)], b"\0"), "admitted 1")
 admit(image([record(STRUCT, 1, nulls=40)]), "refused 7 0")
@@ -382,6 +397,10 @@ admit(keys(1, 0, [9, 0], 1, start=1), "admitted 2")  # a key before START is not
 admit(keys(1, 0, [0, 9], 1, valid="10"), "admitted 2")  # nor one that is marked null
 admit(keys(1, 0, [9, 0], 1, valid="10"), "refused 9 0")
 admit(keys(1, 0, [0, 0, 9], 1, start=1, valid="010"), "admitted 2")  # row 1 is marked by bit START + 1, 2
+admit(keys(1, 0, [0] * 9 + [9], 1, valid="1111111110"), "admitted 2")  # bit 9 is in the second byte
+admit(keys(1, 0, [0] * 9 + [9], 1, valid="0000000001"), "refused 9 0")
+admit(keys(1, 0, [0] * 8 + [9], 1, valid="111111110"), "admitted 2")  # bit 8 is its lowest
+admit(keys(1, 0, [0] * 8 + [9], 1, valid="000000001"), "refused 9 0")
 admit(keys(1, 0, [0], 0), "refused 9 0")  # a child of no rows has no row 0
 admit(keys(1, 0, [0], 0, valid="0"), "admitted 2")
 
@@ -400,6 +419,7 @@ title("9: list views")
 admit(spans(4, [1], [2], 3), "admitted 2")  # rows 1 and 2
 admit(spans(4, [2], [2], 3), "refused 9 0")  # row 3 is not there
 admit(spans(4, [2, 0], [1, 3], 3), "admitted 2")  # out of order and overlapping
+admit(spans(4, [2, 0], [1, 4], 3), "refused 9 0")  # row 1 ends at 4
 admit(spans(4, [3], [0], 3), "admitted 2")  # the sum is 3
 admit(spans(4, [4], [0], 3), "refused 9 0")  # the sum is 4, though there are no elements
 admit(spans(4, [-1], [2], 3), "refused 9 0")  # negative offset, though the sum is 1
@@ -508,21 +528,23 @@ slot(3, 0, "number 8 18446744073709551615")
 slot(3, 1, "number 8 72623859790382856")  # 0x0102030405060708
 
 title("slots: floats, as bits; minus zero stays as it is")
+# 2 x 2 bytes at 112, 2 x 4 at 116, 2 x 8 at 124, the bitmap of node 2 at 140
 admit(image([record(FLOAT, 2, a=112, p=2), record(FLOAT, 1, 1, a=116, p=4), record(FLOAT, 2, nulls=140, a=124, p=8)],
-            little(2, 0x8000, 0x3C00), little(4, 0, 0x3F80_0000),
+            little(2, 0x8000, 0x0001), little(4, 0, 0x3F80_0000),
             little(8, 0x3FF8_0000_0000_0000, 0x7FF8_0000_0000_0001), bits("10")), "admitted 3")
 slot(0, 0, "float 2 8000")
-slot(0, 1, "float 2 3c00")
+slot(0, 1, "float 2 0001")
 slot(1, 0, "float 4 3f800000")
 slot(2, 0, "float 8 3ff8000000000000")
 slot(2, 1, "null")
 
-title("slots: Booleans; START 6, so rows 0 to 3 are bits 6 to 9 of A and of the bitmap")
-admit(image([record(BOOLEAN, 4, 6, nulls=42, a=40)], bits("000000 1010"), bits("000000 1101")), "admitted 1")
-slot(0, 0, "boolean true")
-slot(0, 1, "boolean false")
-slot(0, 2, "null")
-slot(0, 3, "boolean false")
+title("slots: Booleans; START 6, so rows 0 to 4 are bits 6 to 10 of A and of the bitmap")
+admit(image([record(BOOLEAN, 5, 6, nulls=42, a=40)], bits("000000 01010"), bits("111111 11011")), "admitted 1")
+slot(0, 0, "boolean false")
+slot(0, 1, "boolean true")
+slot(0, 2, "null")  # bit 8, the lowest of the second byte
+slot(0, 3, "boolean true")
+slot(0, 4, "boolean false")
 
 title("slots: text and binary with their places")
 # START 1 and ROWS 3 make 5 offsets at 40, the bitmap at 60, data at 61; rows are [1,3), [3,3), and null [3,5)

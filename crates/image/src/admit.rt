@@ -28,13 +28,6 @@ impl<'a> Image<'a> {
         Ok(())
     }
 
-    // The image's bytes.
-    pub fn bytes(&self) -> &'a [u8]
-        ensures { λ r. ⌜ now r ≡ now (now (self .entry) .bytes) ⌝ }
-    {
-        self.bytes
-    }
-
     // How many nodes the image has.
     pub fn node_count(&self) -> u32
         ensures { λ r. ⌜ r ≡ nodes (now (now (self .entry) .bytes)) ⌝ }

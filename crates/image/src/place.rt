@@ -9,3 +9,12 @@ pub struct Image<'a> {
     pub(crate) bytes: &'a [u8],
     ghost sound: { sound (now bytes) ≡ true },
 }
+
+impl<'a> Image<'a> {
+    // The image's bytes.
+    pub fn bytes(&self) -> &'a [u8]
+        ensures { λ r. ⌜ now r ≡ now (now (self .entry) .bytes) ⌝ }
+    {
+        self.bytes
+    }
+}
