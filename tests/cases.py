@@ -223,11 +223,11 @@ for kind, width, count in [(DICTIONARY, 1, 1), (LIST, 4, 1), (LIST_VIEW, 4, 1), 
                            (FIXED_SIZE_LIST, 1, 1), (RUN_END, 2, 1)]:
     for structs, answer in [(15, "admitted 16"), (16, "refused 6 0")]:
         tables = 4 + 36 * (structs + 1)
-        top = tables + 4 * structs
+        top = tables + 4 * (structs - 1)
         records = [record(kind, a=top + 8, p=width, tab=top, cnt=count)]
         records += [record(STRUCT, tab=tables + 4 * n, cnt=1) for n in range(structs - 1)]
         records += [record(STRUCT)]
-        admit(image(records, children(*range(2, structs + 2)), children(1, 1), bytes(8)), answer)
+        admit(image(records, children(*range(2, structs + 1)), children(1, 1), bytes(8)), answer)
 
 # ---------------------------------------------------------------------------
 title("7: each buffer whole, then a byte short")
