@@ -19,7 +19,7 @@ use Rattle.admission.specs.Seams.{Headed, Linked}
 use Rattle.admission.proofs.Below.{none-at}
 
 -- of a list of children: how many there are, and that their numbers can be read
-children-parts : (len least most : ℕ) (r : Record) → bad-table len (Children least most) r ≡ false → (least ≤ r .cnt) × (r .tab + 4 * r .cnt ≤ len)
+pub children-parts : (len least most : ℕ) (r : Record) → bad-table len (Children least most) r ≡ false → (least ≤ r .cnt) × (r .tab + 4 * r .cnt ≤ len)
 children-parts len least most r e =
     let parts = or-parts (ltb (r .cnt) least) (ltb most (r .cnt) || outside len (r .tab) (4 * r .cnt)) e in
     let more = or-parts (ltb most (r .cnt)) (outside len (r .tab) (4 * r .cnt)) (parts .1) in

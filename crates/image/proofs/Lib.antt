@@ -1,3 +1,4 @@
 pub mod Children
+pub mod Levels
 pub mod Readable
 pub mod Told

@@ -1,4 +1,5 @@
 pub mod Slot
 pub mod Read
+pub mod Levels
 pub mod Seams
 pub mod Values

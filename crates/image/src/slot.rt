@@ -1,5 +1,6 @@
 // The slot reader: an admitted image is read without a test.
 ghost use Prim.Native.Nat.{ℕ, _*_, _+_, _<_, _≤_};
+ghost use Rattle.image.specs.Levels.{Deep-enough};
 ghost use Rattle.image.specs.Read.{offset, part, span, typed-slot, unmarked, view-bytes-place};
 ghost use Rattle.image.specs.Seams.{Readable, Span-there};
 ghost use Rattle.image.specs.Slot.{Slot};
@@ -95,7 +96,8 @@ fn value<'a>(bytes: &'a [u8], t: DataType, r: &Record, row: u32) -> SlotValue<'a
 impl<'a> Image<'a> {
     // The slot of a row, or 13 where there is no such node, 17 where there is no such row.
     pub fn slot(&self, node: u64, row: u64) -> Result<SlotValue<'a>, SlotFault>
-        ensures { λ a. ⌜ answered a ≡ value-answer (now (now (self .entry) .bytes)) node row ⌝ }
+        ensures answer { λ a. ⌜ answered a ≡ value-answer (now (now (self .entry) .bytes)) node row ⌝ }
+        ensures levels { λ a. ⌜ Deep-enough (now (now (self .entry) .bytes)) node row ⌝ }
     {
         if node >= u64::from(self.node_count()) {
             return Err(SlotFault::NoNode);
