@@ -76,9 +76,9 @@ module _ (bytes : List ℕ) (is-sound : sound bytes ≡ true) where
       sym (ap (λ (n : ℕ). some-below n (λ k. higher bytes h (child bytes r k))) count) ∙ low in
       ap (by-type f node row) (found .1)
       ∙ ap (λ (s : Slot). cond (reads-nulls t && marked bytes r row) null s)
-          (unmarked-same bytes r f g row (r .start + row) t (found .2 .tabled)
-           (λ k l i. same (child bytes r k) i (none-at (listed (table t) (r .cnt)) (λ k. higher bytes h (child bytes r k)) k lower l)
-              (child-behind bytes node r (table t) (found .2 .tabled) (found .2 .lined) k l .2)))
+      (unmarked-same bytes r f g row (r .start + row) t (found .2 .tabled)
+      (λ k l i. same (child bytes r k) i (none-at (listed (table t) (r .cnt)) (λ k. higher bytes h (child bytes r k)) k lower l)
+      (child-behind bytes node r (table t) (found .2 .tabled) (found .2 .lined) k l .2)))
       ∙ sym (ap (by-type g node row) (found .1))
 
   levels-same : (h f g node row : ℕ) → higher bytes h node ≡ false → node < nodes bytes → h ≤ f → h ≤ g → slot-within f bytes node row ≡ slot-within g bytes node row

@@ -53,6 +53,6 @@ returns c =
       answer =
           ap {B = Result Value ℕ} (λ (v : Value). Ok v) value
           ∙ sym (cond-true (ltb node (nodes bytes)) (cond (ltb row (record-at bytes node .rows)) (Ok (value-at bytes node row)) (Err 17)) (Err 13) (lt-ltb node (nodes bytes) there)
-    ∙ cond-true (ltb row (record-at bytes node .rows)) (Ok (value-at bytes node row)) (Err 17) (lt-ltb row (record-at bytes node .rows) held));
-      levels = deep-enough bytes (c .args .self .now .sound) node row
+          ∙ cond-true (ltb row (record-at bytes node .rows)) (Ok (value-at bytes node row)) (Err 17) (lt-ltb row (record-at bytes node .rows) held));
+      levels = deep-enough bytes (c .args .self .now .sound) node row;
     }
