@@ -653,7 +653,7 @@ slot(1, 2, "number 2 300")
 
 # ---------------------------------------------------------------------------
 title("what is not a command")
-line("image", "not understood")
+line("image", "refused 1 0")  # no digits are no bytes
 line("image 0", "not understood")  # two digits a byte
 line("image 0g", "not understood")
 line("slot", "not understood")
