@@ -1,0 +1,96 @@
+// An image described for a person.
+use crate::failure::Failure;
+use crate::failure::FailureFromAlloc;
+use crate::failure::FailureFromIo;
+use crate::files::read_image;
+use crate::slots::SlotShown;
+use crate::slots::SlotShownDisplay;
+use crate::types::TypeName;
+use crate::types::TypeNameDisplay;
+use image::place::Image;
+use layout::record::Record;
+use std::fmt;
+use std::io;
+use std::io::BufWriter;
+use std::io::Stdout;
+use std::io::Write;
+
+// A node's line: its number, its type, its rows and start, and the numbers of its children.
+#[derive(Clone, Copy)]
+struct NodeShown<'a> {
+    image: Image<'a>,
+    node: u32,
+    record: Record,
+}
+
+impl fmt::Display for NodeShown<'_> as NodeShownDisplay {
+    fn fmt<W: fmt::Write>(&self, f: &mut fmt::Formatter<W>) -> fmt::Result {
+        let node = self.node;
+        write!(f, "{node:>3}  ")?;
+        if let Some(data_type) = self.record.data_type() {
+            write!(f, "{:<23}", TypeName(data_type))?;
+        }
+        write!(f, "  rows {:<7}  start {}", self.record.rows, self.record.start)?;
+        let count = self.record.child_count();
+        if count > 0 {
+            f.write_str("  children")?;
+        }
+        for index in 0..count {
+            if let Some(child) = self.image.child(u64::from(node), u64::from(index)) {
+                write!(f, " {child}")?;
+            }
+        }
+        Ok(())
+    }
+}
+
+pub fn show(rt: &LibcRuntime, path: &str, node: Option<u64>) -> Result<(), Failure> {
+    let bytes = match read_image(rt, path) {
+        Ok(bytes) => bytes,
+        Err(error) => return Err(Failure::Unreadable(String::from_str(rt.alloc(), path)?, error)),
+    };
+    let mut image = Image::empty();
+    if let Err(fault) = image.admit(bytes.as_slice()) {
+        return Err(Failure::Refused(String::from_str(rt.alloc(), path)?, fault));
+    }
+    let size = bytes.len();
+    let count = image.node_count();
+    let mut out = BufWriter::new(rt.stdout());
+    match node {
+        None => {
+            writeln!(out, "{path}: {size} bytes, {count} nodes")?;
+            show_nodes(&mut out, &image)?;
+        }
+        Some(node) => {
+            let Some(record) = image.node(node) else {
+                return Err(Failure::NoNode(String::from_str(rt.alloc(), path)?, node, count));
+            };
+            writeln!(out, "{path}: {size} bytes, {count} nodes")?;
+            show_rows(&mut out, &image, node, &record)?;
+        }
+    }
+    out.flush()?;
+    Ok(())
+}
+
+fn show_nodes(out: &mut BufWriter<Stdout>, image: &Image) -> io::Result<()> {
+    for node in 0..image.node_count() {
+        if let Some(record) = image.node(u64::from(node)) {
+            let image = *image;
+            writeln!(out, "{}", NodeShown { image, node, record })?;
+        }
+    }
+    Ok(())
+}
+
+fn show_rows(out: &mut BufWriter<Stdout>, image: &Image, node: u64, record: &Record) -> io::Result<()> {
+    let Some(data_type) = record.data_type() else {
+        return Ok(());
+    };
+    for row in 0..record.rows {
+        if let Ok(value) = image.slot(node, u64::from(row)) {
+            writeln!(out, "{row:>7}  {}", SlotShown { data_type, value })?;
+        }
+    }
+    Ok(())
+}
