@@ -22,21 +22,28 @@ impl<'a> Command<'a> {
         };
         match name {
             "image" => parse_image(heap, rest),
-            "image-file" if !rest.is_empty() => Ok(Some(Command::ImageFile(rest))),
+            "image-file" => Ok(parse_image_file(rest)),
             "slot" => Ok(parse_slot(rest)),
             _ => Ok(None),
         }
     }
 }
 
-fn parse_image(heap: Global, digits: &str) -> Result<Option<Command<'static>>, AllocError> {
+fn parse_image(heap: Global, digits: &str) -> Result<Option<Command<'_>>, AllocError> {
     match hex_bytes(heap, digits.as_bytes())? {
         Some(bytes) => Ok(Some(Command::Image(bytes))),
         None => Ok(None),
     }
 }
 
-fn parse_slot(words: &str) -> Option<Command<'static>> {
+fn parse_image_file(path: &str) -> Option<Command<'_>> {
+    if path.is_empty() {
+        return None;
+    }
+    Some(Command::ImageFile(path))
+}
+
+fn parse_slot(words: &str) -> Option<Command<'_>> {
     let mut words = words.split_ascii_whitespace();
     let node = number(words.next()?.as_bytes())?;
     let row = number(words.next()?.as_bytes())?;

@@ -34,16 +34,20 @@ pub impl From<io::Error> for Failure as FailureFromIo {
 // What is wrong with an image that is refused.
 fn reason(fault: &ImageFault) -> &'static str {
     match fault {
-        ImageFault::Header => "it is too short or too long for an image, or has no node or more than 256",
+        ImageFault::Header =>
+            "it is too short or too long for an image, or has no node or more than 256",
         ImageFault::Kind(_) => "there is no such column type, or not with such a width",
         ImageFault::Length(_) => "it has more than 1048576 rows, or starts after more than 1048576",
-        ImageFault::Table(_) => "the number of its children or data buffers is not allowed, or their list is not wholly inside the image",
+        ImageFault::Table(_) =>
+            "the number of its children or data buffers is not allowed, or their list is not wholly inside the image",
         ImageFault::Child(_) => "a child is not a later node of the image",
         ImageFault::Height(_) => "more than 16 levels of nodes stand on each other",
         ImageFault::Buffer(_) => "a buffer is not wholly inside the image",
-        ImageFault::Order(_) => "an offset is negative or below the one before it, or run ends do not rise from above 0",
+        ImageFault::Order(_) =>
+            "an offset is negative or below the one before it, or run ends do not rise from above 0",
         ImageFault::Reach(_) => "a row reaches a child row or a byte that is not there",
-        ImageFault::View(_) => "a view's padding is not zero, or its prefix is not how its bytes begin",
+        ImageFault::View(_) =>
+            "a view's padding is not zero, or its prefix is not how its bytes begin",
     }
 }
 
@@ -51,7 +55,10 @@ pub impl fmt::Display for Failure as FailureDisplay {
     fn fmt<W: fmt::Write>(&self, f: &mut fmt::Formatter<W>) -> fmt::Result {
         match self {
             Failure::NoCommand => f.write_str("no command is given"),
-            Failure::UnknownCommand(word) => write!(f, "{word}: no such command (rowhash help lists them)"),
+            Failure::UnknownCommand(word) => write!(
+                f,
+                "{word}: no such command (rowhash help lists them)"
+            ),
             Failure::NoFile => f.write_str("show: no file is given"),
             Failure::TooManyArguments(word) => write!(f, "{word}: one argument too many"),
             Failure::NoNumber(word) => write!(f, "{word}: not the number of a node"),
@@ -62,7 +69,10 @@ pub impl fmt::Display for Failure as FailureDisplay {
                 write!(f, "{path}: refused {number} at node {node}: {why}")
             }
             Failure::NoNode(path, node, count) => {
-                write!(f, "{path}: no node {node}: the image has {count}, counted from 0")
+                write!(
+                    f,
+                    "{path}: no node {node}: the image has {count}, counted from 0"
+                )
             }
             Failure::Memory => f.write_str("out of memory"),
             Failure::Stream(error) => write!(f, "{error}"),

@@ -18,8 +18,7 @@ struct Session {
     input: BufReader<Stdin>,
 }
 
-// An image borrows its bytes, so each image has a turn of its own, which ends when another is
-// accepted. No bytes are no image, so the first turn has the empty one.
+// Begins with no bytes, which are no image, so that the empty one stands.
 pub fn replay(rt: &LibcRuntime) -> io::Result<()> {
     let mut session = Session {
         rt: *rt,
@@ -27,12 +26,10 @@ pub fn replay(rt: &LibcRuntime) -> io::Result<()> {
     };
     let mut bytes = Vec::new(rt.alloc());
     for _ in 0..u64::MAX {
-        let mut image = Image::empty();
-        let _ = image.admit(bytes.as_slice());
-        let Some(next) = session.answer_lines(&image)? else {
-            break;
-        };
-        bytes = next;
+        match session.answer_over(bytes.as_slice())? {
+            Some(next) => bytes = next,
+            None => break,
+        }
     }
     Ok(())
 }
@@ -50,6 +47,13 @@ fn is_passed_over(line: &[u8]) -> bool {
 }
 
 impl Session {
+    // An image borrows its bytes, so each has a turn of its own, until another is accepted.
+    fn answer_over(&mut self, bytes: &[u8]) -> io::Result<Option<Vec<u8>>> {
+        let mut image = Image::empty();
+        let _ = image.admit(bytes);
+        self.answer_lines(&image)
+    }
+
     // Answers lines until one brings another image, whose bytes it gives, or there are no more.
     fn answer_lines(&mut self, image: &Image) -> io::Result<Option<Vec<u8>>> {
         let mut line = Vec::new(self.rt.alloc());

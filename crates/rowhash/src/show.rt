@@ -30,7 +30,11 @@ impl fmt::Display for NodeShown<'_> as NodeShownDisplay {
         if let Some(data_type) = self.record.data_type() {
             write!(f, "{:<23}", TypeName(data_type))?;
         }
-        write!(f, "  rows {:<7}  start {}", self.record.rows, self.record.start)?;
+        write!(
+            f,
+            "  rows {:<7}  start {}",
+            self.record.rows, self.record.start
+        )?;
         let count = self.record.child_count();
         if count > 0 {
             f.write_str("  children")?;
@@ -77,13 +81,26 @@ fn show_nodes(out: &mut BufWriter<Stdout>, image: &Image) -> io::Result<()> {
     for node in 0..image.node_count() {
         if let Some(record) = image.node(u64::from(node)) {
             let image = *image;
-            writeln!(out, "{}", NodeShown { image, node, record })?;
+            writeln!(
+                out,
+                "{}",
+                NodeShown {
+                    image,
+                    node,
+                    record
+                }
+            )?;
         }
     }
     Ok(())
 }
 
-fn show_rows(out: &mut BufWriter<Stdout>, image: &Image, node: u64, record: &Record) -> io::Result<()> {
+fn show_rows(
+    out: &mut BufWriter<Stdout>,
+    image: &Image,
+    node: u64,
+    record: &Record,
+) -> io::Result<()> {
     let Some(data_type) = record.data_type() else {
         return Ok(());
     };

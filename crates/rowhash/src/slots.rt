@@ -50,7 +50,12 @@ pub impl fmt::Display for SlotAnswer<'_> as SlotAnswerDisplay {
             Ok(SlotValue::Null) => f.write_str("null"),
             Ok(SlotValue::Boolean(value)) => write!(f, "boolean {value}"),
             Ok(SlotValue::Number(width, value)) => write!(f, "number {} {value}", width.bytes()),
-            Ok(SlotValue::Float(width, bits)) => write!(f, "float {} {}", width.bytes(), Bits(width, bits)),
+            Ok(SlotValue::Float(width, bits)) => write!(
+                f,
+                "float {} {}",
+                width.bytes(),
+                Bits(width, bits)
+            ),
             Ok(SlotValue::Text(place, bytes)) => write!(f, "text {}", Part(place, bytes)),
             Ok(SlotValue::Binary(place, bytes)) => write!(f, "binary {}", Part(place, bytes)),
             Ok(SlotValue::View(place, bytes)) => write!(f, "view {}", Part(place, bytes)),

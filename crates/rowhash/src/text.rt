@@ -1,10 +1,14 @@
 // Numbers and bytes as text has them.
+ghost use Rattle.rowhash.specs.Text.{byte-value, digit-value};
+ghost use mathlib.Core.Path.{_≡_};
 use std::alloc::AllocError;
 use std::alloc::Global;
 use std::fmt;
 
 // The value of a hexadecimal digit.
-pub fn hex_digit(digit: u8) -> Option<u8> {
+pub fn hex_digit(digit: u8) -> Option<u8>
+    ensures { λ r. ⌜ r ≡ digit-value digit ⌝ }
+{
     match digit {
         b'0'..=b'9' => Some(digit - b'0'),
         b'a'..=b'f' => Some(digit - b'a' + 10),
@@ -14,7 +18,9 @@ pub fn hex_digit(digit: u8) -> Option<u8> {
 }
 
 // The byte of two digits.
-fn hex_byte(high: u8, low: u8) -> Option<u8> {
+fn hex_byte(high: u8, low: u8) -> Option<u8>
+    ensures { λ r. ⌜ r ≡ byte-value high low ⌝ }
+{
     Some(16 * hex_digit(high)? + hex_digit(low)?)
 }
 
@@ -45,7 +51,9 @@ fn numeral(base: u8, digits: &[u8]) -> Option<u64> {
         if next >= base {
             return None;
         }
-        value = value.checked_mul(u64::from(base))?.checked_add(u64::from(next))?;
+        value = value
+            .checked_mul(u64::from(base))?
+            .checked_add(u64::from(next))?;
     }
     Some(value)
 }
