@@ -1,4 +1,8 @@
 // Commands from standard input, each answered by one line.
+ghost use Rattle.admission.specs.FirstFault.{fault-of, first-fault};
+ghost use Rattle.layout.specs.Records.{nodes};
+ghost use Rattle.std.specs.Vec.{made};
+ghost use mathlib.Core.Path.{_≡_};
 use crate::command::Command;
 use crate::files::read_image;
 use crate::slots::SlotAnswer;
@@ -35,7 +39,10 @@ pub fn replay(rt: &LibcRuntime) -> io::Result<()> {
 }
 
 // How many nodes the bytes have as an image, or why they are none.
-fn count_nodes(bytes: &[u8]) -> Result<u32, ImageFault> {
+fn count_nodes(bytes: &[u8]) -> Result<u32, ImageFault>
+    ensures fault { λ r. ⌜ fault-of r ≡ first-fault (now (bytes .entry)) ⌝ }
+    ensures count { λ r. ⌜ made r (λ n. n ≡ nodes (now (bytes .entry))) ⌝ }
+{
     let mut image = Image::empty();
     image.admit(bytes)?;
     Ok(image.node_count())

@@ -1,5 +1,8 @@
 // Numbers and bytes as text has them.
-ghost use Rattle.rowhash.specs.Text.{byte-value, digit-value};
+ghost use Rattle.rowhash.specs.Text.{byte-value, bytes-value, digit-value, number-value, numeral-value, with-digit};
+ghost use Rattle.std.specs.Of.Vec.{vec-items};
+ghost use Rattle.std.specs.Options.{mapped};
+ghost use Rattle.std.specs.Vec.{made};
 ghost use mathlib.Core.Path.{_≡_};
 use std::alloc::AllocError;
 use std::alloc::Global;
@@ -25,41 +28,56 @@ fn hex_byte(high: u8, low: u8) -> Option<u8>
 }
 
 // The bytes of a text of two digits each, or none where it is not one.
-pub fn hex_bytes(heap: Global, digits: &[u8]) -> Result<Option<Vec<u8>>, AllocError> {
-    if digits.len() % 2 == 1 {
-        return Ok(None);
-    }
+pub fn hex_bytes(heap: Global, digits: &[u8]) -> Result<Option<Vec<u8>>, AllocError>
+    ensures { λ r. ⌜ made r (λ o. mapped vec-items o ≡ bytes-value (now (digits .entry))) ⌝ }
+{
     let mut bytes = Vec::with_capacity(heap, digits.len() / 2)?;
-    for pair in digits.chunks_exact(2) {
-        let Some(byte) = hex_byte(pair[0], pair[1]) else {
+    let mut rest = digits;
+    while let [high, low, more @ ..] = rest {
+        let Some(byte) = hex_byte(*high, *low) else {
             return Ok(None);
         };
         bytes.push(byte)?;
+        rest = more;
+    }
+    if rest.len() == 1 {
+        return Ok(None);
     }
     Ok(Some(bytes))
 }
 
-// The number that the digits write, or none where there is no digit, something else, or a number
-// that does not fit.
-fn numeral(base: u8, digits: &[u8]) -> Option<u64> {
+// A value with one more digit, or none where it is no digit of the base or the value does not fit.
+fn with_digit(base: u8, value: u64, digit: u8) -> Option<u64>
+    ensures { λ r. ⌜ r ≡ with-digit base value digit ⌝ }
+{
+    let next = hex_digit(digit)?;
+    if next >= base {
+        return None;
+    }
+    value
+        .checked_mul(u64::from(base))?
+        .checked_add(u64::from(next))
+}
+
+// The number that digits write, or none where there is no digit, something else, or a number that
+// does not fit.
+fn numeral(base: u8, digits: &[u8]) -> Option<u64>
+    ensures { λ r. ⌜ r ≡ numeral-value base (now (digits .entry)) ⌝ }
+{
     if digits.is_empty() {
         return None;
     }
-    let mut value = 0u64;
+    let mut value = 0;
     for digit in digits {
-        let next = hex_digit(*digit)?;
-        if next >= base {
-            return None;
-        }
-        value = value
-            .checked_mul(u64::from(base))?
-            .checked_add(u64::from(next))?;
+        value = with_digit(base, value, *digit)?;
     }
     Some(value)
 }
 
 // A number: decimal, or hexadecimal after 0x.
-pub fn number(word: &[u8]) -> Option<u64> {
+pub fn number(word: &[u8]) -> Option<u64>
+    ensures { λ r. ⌜ r ≡ number-value (now (word .entry)) ⌝ }
+{
     match word {
         [b'0', b'x', digits @ ..] => numeral(16, digits),
         _ => numeral(10, word),
