@@ -15,6 +15,7 @@ pub enum Failure {
     Refused(String, ImageFault),
     NoNode(String, u64, u32),
     Memory,
+    Arguments(io::Error),
     Stream(io::Error),
 }
 
@@ -24,7 +25,7 @@ pub impl From<AllocError> for Failure as FailureFromAlloc {
     }
 }
 
-// Files have a case of their own, so what is left are the standard streams and the arguments.
+// Files and arguments have cases of their own, so what is left are the standard streams.
 pub impl From<io::Error> for Failure as FailureFromIo {
     fn from(error: io::Error) -> Failure {
         Failure::Stream(error)
@@ -62,7 +63,7 @@ pub impl fmt::Display for Failure as FailureDisplay {
             Failure::NoFile => f.write_str("show: no file is given"),
             Failure::TooManyArguments(word) => write!(f, "{word}: one argument too many"),
             Failure::NoNumber(word) => write!(f, "{word}: not the number of a node"),
-            Failure::Unreadable(path, error) => write!(f, "{path}: {error}"),
+            Failure::Unreadable(path, error) => write!(f, "{path}: cannot be read: {error}"),
             Failure::Refused(path, fault) => {
                 let (number, node) = fault.numbered();
                 let why = reason(fault);
@@ -75,7 +76,8 @@ pub impl fmt::Display for Failure as FailureDisplay {
                 )
             }
             Failure::Memory => f.write_str("out of memory"),
-            Failure::Stream(error) => write!(f, "{error}"),
+            Failure::Arguments(error) => write!(f, "the arguments cannot be read: {error}"),
+            Failure::Stream(error) => write!(f, "standard input or output: {error}"),
         }
     }
 }

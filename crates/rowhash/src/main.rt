@@ -37,7 +37,11 @@ Example:
   printf 'image-file examples/passes.img\\nslot 1 0\\n' | rowhash replay";
 
 fn run(rt: &LibcRuntime) -> Result<(), Failure> {
-    match Invocation::parse(env::args(rt)?)? {
+    let args = match env::args(rt) {
+        Ok(args) => args,
+        Err(error) => return Err(Failure::Arguments(error)),
+    };
+    match Invocation::parse(args)? {
         Invocation::Help => rt.println(HELP)?,
         Invocation::Version => rt.println("rowhash 0.1.0")?,
         Invocation::Show(path, node) => show::show(rt, path.as_str(), node)?,

@@ -9,6 +9,7 @@ use crate::types::TypeName;
 use crate::types::TypeNameDisplay;
 use image::place::Image;
 use layout::record::Record;
+use std::alloc::Global;
 use std::fmt;
 use std::io;
 use std::io::BufWriter;
@@ -17,23 +18,22 @@ use std::io::Write;
 
 // A node's line: its number, its type, its rows and start, and the numbers of its children.
 #[derive(Clone, Copy)]
-struct NodeShown<'a> {
+struct NodeShown<'a, 'b> {
     image: Image<'a>,
     node: u32,
     record: Record,
+    type_name: &'b str,
 }
 
-impl fmt::Display for NodeShown<'_> as NodeShownDisplay {
+impl fmt::Display for NodeShown<'_, '_> as NodeShownDisplay {
     fn fmt<W: fmt::Write>(&self, f: &mut fmt::Formatter<W>) -> fmt::Result {
         let node = self.node;
-        write!(f, "{node:>3}  ")?;
-        if let Some(data_type) = self.record.data_type() {
-            write!(f, "{:<23}", TypeName(data_type))?;
-        }
+        let type_name = self.type_name;
+        let rows = self.record.rows;
+        let start = self.record.start;
         write!(
             f,
-            "  rows {:<7}  start {}",
-            self.record.rows, self.record.start
+            "{node:>3}  {type_name:<23}  rows {rows:<7}  start {start:<7}"
         )?;
         let count = self.record.child_count();
         if count > 0 {
@@ -63,7 +63,7 @@ pub fn show(rt: &LibcRuntime, path: &str, node: Option<u64>) -> Result<(), Failu
     match node {
         None => {
             writeln!(out, "{path}: {size} bytes, {count} nodes")?;
-            show_nodes(&mut out, &image)?;
+            show_nodes(rt.alloc(), &mut out, &image)?;
         }
         Some(node) => {
             let Some(record) = image.node(node) else {
@@ -77,22 +77,36 @@ pub fn show(rt: &LibcRuntime, path: &str, node: Option<u64>) -> Result<(), Failu
     Ok(())
 }
 
-fn show_nodes(out: &mut BufWriter<Stdout>, image: &Image) -> io::Result<()> {
+fn show_nodes(heap: Global, out: &mut BufWriter<Stdout>, image: &Image) -> io::Result<()> {
     for node in 0..image.node_count() {
         if let Some(record) = image.node(u64::from(node)) {
-            let image = *image;
-            writeln!(
-                out,
-                "{}",
-                NodeShown {
-                    image,
-                    node,
-                    record
-                }
-            )?;
+            show_node(heap, out, image, node, record)?;
         }
     }
     Ok(())
+}
+
+fn show_node(
+    heap: Global,
+    out: &mut BufWriter<Stdout>,
+    image: &Image,
+    node: u32,
+    record: Record,
+) -> io::Result<()> {
+    let Some(data_type) = record.data_type() else {
+        return Ok(());
+    };
+    // as text, so that it can be padded
+    let name = TypeName(data_type).to_string(heap)?;
+    let image = *image;
+    let type_name = name.as_str();
+    let shown = NodeShown {
+        image,
+        node,
+        record,
+        type_name,
+    };
+    writeln!(out, "{shown}")
 }
 
 fn show_rows(
