@@ -33,7 +33,7 @@ impl fmt::Display for NodeShown<'_, '_> as NodeShownDisplay {
         let start = self.record.start;
         write!(
             f,
-            "{node:>3}  {type_name:<23}  rows {rows:<7}  start {start:<7}"
+            "{node:>3}  {type_name:<23}  rows {rows:<7}  start {start}"
         )?;
         let count = self.record.child_count();
         if count > 0 {
@@ -62,14 +62,14 @@ pub fn show(rt: &LibcRuntime, path: &str, node: Option<u64>) -> Result<(), Failu
     let mut out = BufWriter::new(rt.stdout());
     match node {
         None => {
-            writeln!(out, "{path}: {size} bytes, {count} nodes")?;
+            writeln!(out, "{path}: bytes {size}, nodes {count}")?;
             show_nodes(rt.alloc(), &mut out, &image)?;
         }
         Some(node) => {
             let Some(record) = image.node(node) else {
                 return Err(Failure::NoNode(String::from_str(rt.alloc(), path)?, node, count));
             };
-            writeln!(out, "{path}: {size} bytes, {count} nodes")?;
+            writeln!(out, "{path}: bytes {size}, nodes {count}")?;
             show_rows(&mut out, &image, node, &record)?;
         }
     }
