@@ -666,6 +666,16 @@ line("slot 0 18446744073709551616", "not understood")  # does not fit in 64 bits
 line("slots 0 0", "not understood")
 slot(1, 2, "number 2 300")  # none of them changed the image
 
+title("an image from a file: the example, of which the answers are those that its own description gives")
+line("image-file passes.img", "admitted 19")
+slot(0, 5, "null")
+slot(1, 0, "view 764 4e4f4141203139")
+slot(1, 3, "view 888 46554e637562652d312028414f2d373329")
+slot(2, 1, "number 8 1790002810")
+slot(3, 3, "float 4 80000000")
+line("image-file no-such.img", "unreadable no-such.img")
+slot(0, 0, "kind 11")  # and the example stays
+
 title("commands of the hash, which are not there yet")
 for absent in ["state fnv1a", "work 4", "claimed 0", "begin 0 0", "room 2", "column 0", "keep 0", "read 0", "words"]:
     line(absent, "not understood")
@@ -675,7 +685,7 @@ def main():
     """Check the lists against each other and write them."""
     asked = [text for text in lines if text and not text.startswith("#")]
     assert asked == commands and len(commands) == len(answers)
-    forms = {"admitted", "refused", "null", "boolean", "number", "float", "text", "binary", "view", "kind", "not"}
+    forms = {"admitted", "refused", "null", "boolean", "number", "float", "text", "binary", "view", "kind", "not", "unreadable"}
     for command, answer in zip(commands, answers):
         assert "\n" not in command + answer and answer.split()[0] in forms, (command, answer)
         parts = answer.split()
@@ -683,12 +693,14 @@ def main():
             raw = bytes.fromhex(command[6:])
             assert parts == ["admitted", str(int.from_bytes(raw[:4], "little"))], answer
         if parts[0] == "refused":
-            assert len(parts) == (3 if command.startswith("image ") else 2), answer
+            assert len(parts) == (3 if command.startswith("image") else 2), answer
     refusals = {answer.split()[1] for answer in answers if answer.startswith("refused")}
     assert refusals >= {str(n) for n in range(1, 11)} | {"13", "17"}
 
     directory = pathlib.Path(sys.argv[1]) if len(sys.argv) > 1 else ROOT / "crates" / "rowhash"
     directory.mkdir(parents=True, exist_ok=True)
+    (directory / "data").mkdir(exist_ok=True)
+    (directory / "data" / "passes.img").write_bytes((ROOT / "examples" / "passes.img").read_bytes())
     (directory / "stdin").write_text("\n".join(lines).lstrip("\n") + "\n")
     (directory / "stdout").write_text("\n".join(answers) + "\n")
     print(f"{len(commands)} commands, {len(answers)} answers")

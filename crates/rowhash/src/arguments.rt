@@ -1,7 +1,7 @@
 // What the program is asked to do.
 use crate::failure::Failure;
-use crate::text::number;
 use std::env::Args;
+use text::number;
 
 #[derive(Drop)]
 pub enum Invocation {

@@ -1,8 +1,8 @@
 // The commands of replay.
-use crate::text::hex_bytes;
-use crate::text::number;
 use std::alloc::AllocError;
 use std::alloc::Global;
+use text::hex_bytes;
+use text::number;
 
 #[derive(Drop)]
 pub enum Command<'a> {

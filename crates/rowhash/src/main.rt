@@ -6,7 +6,6 @@ mod files;
 mod replay;
 mod show;
 mod slots;
-mod text;
 mod types;
 
 use arguments::Invocation;

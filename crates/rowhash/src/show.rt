@@ -15,8 +15,10 @@ use std::io;
 use std::io::BufWriter;
 use std::io::Stdout;
 use std::io::Write;
+use summary::null_count;
 
-// A node's line: its number, its type, its rows and start, and the numbers of its children.
+// A node's line: its number, its type, its rows and start, how many rows are marked null, and the
+// numbers of its children.
 #[derive(Clone, Copy)]
 struct NodeShown<'a, 'b> {
     image: Image<'a>,
@@ -31,6 +33,7 @@ impl fmt::Display for NodeShown<'_, '_> as NodeShownDisplay {
         let type_name = self.type_name;
         let rows = self.record.rows;
         let start = self.record.start;
+        let nulls = null_count(&self.image, u64::from(node)).unwrap_or(0);
         write!(
             f,
             "{node:>3}  {type_name:<23}  rows {rows:<7}  start {start}"

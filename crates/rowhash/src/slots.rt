@@ -1,6 +1,4 @@
 // Slots as lines of text: as replay answers them, and for a person.
-use crate::text::Hex;
-use crate::text::HexDisplay;
 use crate::types::TypeName;
 use crate::types::TypeNameDisplay;
 use image::value::SlotFault;
@@ -9,6 +7,8 @@ use layout::bytes::Width;
 use layout::data_type::DataType;
 use std::fmt;
 use std::str::from_utf8;
+use text::Hex;
+use text::HexDisplay;
 
 // The bits of a float, two digits for each of its bytes.
 #[derive(Clone, Copy)]

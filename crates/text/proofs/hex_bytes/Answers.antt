@@ -5,9 +5,9 @@ use mathlib.Core.Path.{_≡_, ap, sym, _∙_}
 use lib.ListN.{drop, length, take}
 use Rattle.std.specs.Of.Vec.{vec-items}
 use Rattle.std.specs.Options.{mapped}
-use Rattle.rowhash.proofs.Reading.{pairs-step}
-use Rattle.rowhash.specs.Text.{bytes-value}
-use Rattle.rowhash.proofs.text.hex_bytes.Needs as need
+use Rattle.text.proofs.Reading.{pairs-step}
+use Rattle.text.specs.Text.{bytes-value}
+use Rattle.text.proofs.hex_bytes.Needs as need
 
 pub loop-rest-again : need.loop-rest-again
 loop-rest-again c =

@@ -2,8 +2,8 @@ use Prim.Native.Nat.{_<_}
 use borrow.Author.Needs.{needs}
 use mathlib.Core.Path.{_≡_, sym, _∙_}
 use lib.ListN.{length}
-use Rattle.rowhash.proofs.Reading.{digits-end, digits-some, digits-step}
-use Rattle.rowhash.proofs.text.numeral.Needs as need
+use Rattle.text.proofs.Reading.{digits-end, digits-some, digits-step}
+use Rattle.text.proofs.numeral.Needs as need
 
 pub returns-in-Break-value : need.returns-in-Break-value
 returns-in-Break-value c =

@@ -9,7 +9,7 @@ use Rattle.std.proofs.shelf.Lists.{at-drop-all, at-drop-more}
 use Rattle.std.specs.Options.{mapped}
 use Rattle.std.specs.declared.option.Option.{Option}
 use Rattle.std.specs.declared.option.Option.the-variants.{Some, None}
-use Rattle.rowhash.specs.Text.{and-then, both, byte-value, bytes-value, number-value, numeral-value, with-digit, with-digits}
+use Rattle.text.specs.Text.{and-then, both, byte-value, bytes-value, number-value, numeral-value, with-digit, with-digits}
 
 -- a digit is read
 pub digits-step : (base value : ℕ) (ds : List ℕ) (i : ℕ) (o : Option ℕ) → i < length ds → o ≡ with-digit base value (getD ds i 0) → with-digits base value (drop i ds) ≡ and-then o (λ next. with-digits base next (drop (i + 1) ds))

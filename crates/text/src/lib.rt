@@ -1,5 +1,5 @@
 // Numbers and bytes as text has them.
-ghost use Rattle.rowhash.specs.Text.{byte-value, bytes-value, digit-value, number-value, numeral-value, with-digit};
+ghost use Rattle.text.specs.Text.{byte-value, bytes-value, digit-value, number-value, numeral-value, with-digit};
 ghost use Rattle.std.specs.Of.Vec.{vec-items};
 ghost use Rattle.std.specs.Options.{mapped};
 ghost use Rattle.std.specs.Vec.{made};
@@ -9,7 +9,7 @@ use std::alloc::Global;
 use std::fmt;
 
 // The value of a hexadecimal digit.
-pub fn hex_digit(digit: u8) -> Option<u8>
+fn hex_digit(digit: u8) -> Option<u8>
     ensures { λ r. ⌜ r ≡ digit-value digit ⌝ }
 {
     match digit {

@@ -2,8 +2,8 @@ use Prim.Native.Nat.{_≤_}
 use borrow.Author.Needs.{needs}
 use mathlib.Core.Path.{_≡_, sym, _∙_}
 use lib.ListN.{getD, length}
-use Rattle.rowhash.proofs.Reading.{word-hex}
-use Rattle.rowhash.proofs.text.number.Needs as need
+use Rattle.text.proofs.Reading.{word-hex}
+use Rattle.text.proofs.number.Needs as need
 
 pub returns-in-48 : need.returns-in-48
 returns-in-48 c =
