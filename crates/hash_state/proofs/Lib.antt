@@ -1,0 +1,4 @@
+pub mod Bytes
+pub mod Hashing
+pub mod Rounds
+pub mod Streams
