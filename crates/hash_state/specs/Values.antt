@@ -27,7 +27,7 @@ float w b = Word w (float-bits w b) ∷ []
 abbrev pub seeded-float : ℕ → ℕ → List Write
 seeded-float w b = Bytes (le-bytes w (float-bits w b)) ∷ []
 
--- Text: its bytes, and the byte 255, which no text holds.
+-- Text: its bytes, and the byte 255, which no UTF-8 text holds.
 abbrev pub text : List ℕ → List Write
 text bs = Bytes bs ∷ Word 1 255 ∷ []
 

@@ -36,7 +36,7 @@ impl fmt::Display for NodeShown<'_, '_> as NodeShownDisplay {
         let nulls = null_count(&self.image, u64::from(node)).unwrap_or(0);
         write!(
             f,
-            "{node:>3}  {type_name:<23}  rows {rows:<7}  start {start}"
+            "{node:>3}  {type_name:<23}  rows {rows:<7}  start {start:<7}  nulls {nulls}"
         )?;
         let count = self.record.child_count();
         if count > 0 {
