@@ -29,7 +29,7 @@ use Rattle.image.specs.Read.{offset}
 use Rattle.image.specs.Seams.{Readable, Span-there}
 
 -- one of n elements of w bytes, where all of them end within a length
-one-inside : (w place k n len : ℕ) → k < n → place + w * n ≤ len → place + w * k + w ≤ len
+pub one-inside : (w place k n len : ℕ) → k < n → place + w * n ≤ len → place + w * k + w ≤ len
 one-inside w place k n len h e =
     let m : suc k ≤ n = omega arith in
     let p : w * suc k ≤ w * n = mul-le-mul-left w m in
@@ -37,7 +37,7 @@ one-inside w place k n len h e =
     omega arith
 
 -- what never falls from step to step is greatest at the end
-rises : (f : ℕ → ℕ) (n : ℕ) → ((k : ℕ) → k < n → f k ≤ f (suc k)) → (j : ℕ) → j ≤ n → f j ≤ f n
+pub rises : (f : ℕ → ℕ) (n : ℕ) → ((k : ℕ) → k < n → f k ≤ f (suc k)) → (j : ℕ) → j ≤ n → f j ≤ f n
 rises f zero step j h = let q : j ≡ 0 = omega arith in rw q (omega arith)
 rises f (suc n) step j h =
     elim (cases-eq j (suc n)) [
@@ -46,7 +46,7 @@ rises f (suc n) step j h =
     ]
 
 module _ (bytes : List ℕ) (w : Width) (r : Record) (ordered : bad-offsets w bytes r ≡ false) where
-  step-up : (k : ℕ) → k < r .rows → offset w bytes r (r .start + k) ≤ offset w bytes r (r .start + k + 1)
+  pub step-up : (k : ℕ) → k < r .rows → offset w bytes r (r .start + k) ≤ offset w bytes r (r .start + k + 1)
   step-up k h =
       let bad : ℕ → Bool = λ k. negative w (element w bytes (r .a) (r .start + k + 1)) || ltb (element w bytes (r .a) (r .start + k + 1)) (element w bytes (r .a) (r .start + k)) in
       let parts = or-parts (negative w (element w bytes (r .a) (r .start))) _ ordered in

@@ -1,0 +1,10 @@
+pub mod Fitting
+pub mod Machine
+pub mod Meaning
+pub mod Nodes
+pub mod Numbers
+pub mod Ranges
+pub mod Reaching
+pub mod Rule
+pub mod Splices
+pub mod Typed

@@ -1,0 +1,4 @@
+pub mod Fold
+pub mod Jobs
+pub mod Machine
+pub mod Seams

@@ -1,0 +1,8 @@
+// The number of every row of every column.
+mod fold;
+pub mod job;
+pub mod node;
+mod reach;
+mod rows;
+mod walk;
+mod words;

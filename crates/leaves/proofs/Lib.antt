@@ -1,0 +1,5 @@
+pub mod Padded
+pub mod Steps
+pub mod Told
+pub mod Typed
+pub mod Wide
