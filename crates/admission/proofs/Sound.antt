@@ -83,6 +83,13 @@ module _ (bytes : List ℕ) (is-sound : sound bytes ≡ true) where
       let u = or-parts (ltb (length bytes) (4 + 36 * nodes bytes)) (ltb 1073741824 (length bytes)) (s .1) in
       ltb-false (length bytes) (4 + 36 * nodes bytes) (u .0)
 
+  -- and there are few
+  pub sound-few : 0 < nodes bytes → nodes bytes ≤ 256
+  sound-few h =
+      let p = or-parts (ltb (length bytes) 4) (eqb (nodes bytes) 0 || (ltb 256 (nodes bytes) || (ltb (length bytes) (4 + 36 * nodes bytes) || ltb 1073741824 (length bytes)))) (fault-parts h .0) in
+      let q = or-parts (eqb (nodes bytes) 0) (ltb 256 (nodes bytes) || (ltb (length bytes) (4 + 36 * nodes bytes) || ltb 1073741824 (length bytes))) (p .1) in
+      ltb-false 256 (nodes bytes) (or-parts (ltb 256 (nodes bytes)) (ltb (length bytes) (4 + 36 * nodes bytes) || ltb 1073741824 (length bytes)) (q .1) .0)
+
   -- each node has a type, and no rejection applies to it
   pub sound-node : (node : ℕ) → node < nodes bytes → (t : DataType) × (data-type (record-at bytes node) ≡ Some t) × Passed bytes node t (record-at bytes node)
   sound-node node h =

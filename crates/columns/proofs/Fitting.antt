@@ -35,11 +35,11 @@ module _ (bytes : List ℕ) (is-sound : sound bytes ≡ true) where
   pub reached : Reached bytes
   reached node lo n row there rows low high m = uses-reached bytes node (record-at bytes node) lo n row rows low high (type-of bytes node) (passed bytes is-sound node there) m
 
-  module _ (ONE : List Write → ℕ) (SEED : ℕ → List Write → ℕ) (len : ℕ) where
-    -- how many children the definitions of height and need count
-    counts : (node : ℕ) → node < nodes bytes → child-count (data-type (record-at bytes node)) (record-at bytes node) ≡ kids (type-of bytes node) (record-at bytes node)
-    counts node there = ap (λ (o : Option DataType). child-count o (record-at bytes node)) (typed bytes is-sound node there)
+  -- how many children the definitions of height and need count
+  pub counts : (node : ℕ) → node < nodes bytes → child-count (data-type (record-at bytes node)) (record-at bytes node) ≡ kids (type-of bytes node) (record-at bytes node)
+  counts node there = ap (λ (o : Option DataType). child-count o (record-at bytes node)) (typed bytes is-sound node there)
 
+  module _ (ONE : List Write → ℕ) (SEED : ℕ → List Write → ℕ) (len : ℕ) where
     need-at : (f node s : ℕ) → node < nodes bytes → s < kids (type-of bytes node) (record-at bytes node)
         → child-rows bytes (record-at bytes node) s + need-within f bytes (child bytes (record-at bytes node) s) ≤ need-within (suc f) bytes node
     need-at f node s there h =

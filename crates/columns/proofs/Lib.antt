@@ -1,6 +1,8 @@
+pub mod AtNode
 pub mod Fitting
 pub mod Machine
 pub mod Meaning
+pub mod Needed
 pub mod Nodes
 pub mod Numbers
 pub mod Ranges

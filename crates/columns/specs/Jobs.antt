@@ -167,3 +167,7 @@ Job-range bytes node r j from size len =
     × (j .at + j .n + size ≤ len)
     × (from ≡ reach-from (type-of bytes node) bytes r (j .lo))
     × (size ≡ region (type-of bytes node) bytes r (j .lo) (j .n))
+
+-- a child's rows and its need, as a table has it
+abbrev pub needs-of : List ℕ → Record → List ℕ → ℕ → ℕ
+needs-of bytes r needs k = child-rows bytes r k + getD needs (child bytes r k) 0

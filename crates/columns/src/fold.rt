@@ -116,7 +116,7 @@ impl Node<'_> {
 
 impl Node<'_> {
     // The number of a row, from its entry and the numbers of the child rows that it reaches.
-    pub fn fold_row(&self, row: u32, region: &[u64], from: u32, first: bool, e: u64) -> u64
+    pub(crate) fn fold_row(&self, row: u32, region: &[u64], from: u32, first: bool, e: u64) -> u64
         requires row { ⌜ row < now self .r .rows ⌝ }
         requires there { ⌜ ((reads-nulls (type-of (now (now self .bytes)) (now self .number)) && marked (now (now self .bytes)) (now self .r) row) ≡ false → Fold-there (type-of (now (now self .bytes)) (now self .number)) (now (now self .bytes)) (now self .r) (now self .r .start + row) from (length (now region))) ⌝ }
         ensures { λ x. ⌜ x ≡ row-number (type-of (now (now (self .entry) .bytes)) (now (self .entry) .number)) (now (now (self .entry) .bytes)) (now (self .entry) .r) (λ q. getD (now (region .entry)) (q - from) 0) first e row ⌝ }

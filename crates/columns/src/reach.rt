@@ -84,7 +84,7 @@ fn reach_rows(bytes: &[u8], t: DataType, r: &Record, lo: u32, n: u32) -> (u32, u
 
 impl Node<'_> {
     // The child rows that `n` rows from `lo` on reach: the first of them, and how many.
-    pub fn reach(&self, lo: u32, n: u32) -> (u32, u32)
+    pub(crate) fn reach(&self, lo: u32, n: u32) -> (u32, u32)
         requires { ⌜ lo + n ≤ now self .r .rows ⌝ }
         ensures from { λ s. ⌜ s .0 ≡ reach-from (type-of (now (now (self .entry) .bytes)) (now (self .entry) .number)) (now (now (self .entry) .bytes)) (now (self .entry) .r) lo ⌝ }
         ensures size { λ s. ⌜ s .1 ≡ region (type-of (now (now (self .entry) .bytes)) (now (self .entry) .number)) (now (now (self .entry) .bytes)) (now (self .entry) .r) lo n ⌝ }

@@ -12,7 +12,7 @@ use layout::record::Record;
 
 impl<'a> Node<'a> {
     // A node of an image.
-    pub fn of(image: &Image<'a>, number: u32) -> Node<'a>
+    pub(crate) fn of(image: &Image<'a>, number: u32) -> Node<'a>
         requires { ⌜ number < nodes (now (now image .bytes)) ⌝ }
         ensures bytes { λ n. ⌜ now (n .bytes) ≡ now (now (image .entry) .bytes) ⌝ }
         ensures number { λ n. ⌜ n .number ≡ number ⌝ }
@@ -23,7 +23,7 @@ impl<'a> Node<'a> {
     }
 
     // A child of the node.
-    pub fn child(&self, index: u32) -> Node<'a>
+    pub(crate) fn child(&self, index: u32) -> Node<'a>
         requires { ⌜ index < kids (type-of (now (now self .bytes)) (now self .number)) (now self .r) ⌝ }
         ensures bytes { λ n. ⌜ now (n .bytes) ≡ now (now (self .entry) .bytes) ⌝ }
         ensures number { λ n. ⌜ n .number ≡ child (now (now (self .entry) .bytes)) (now (self .entry) .r) index ⌝ }
@@ -35,7 +35,7 @@ impl<'a> Node<'a> {
     }
 
     // Its type.
-    pub fn data_type(&self) -> DataType
+    pub(crate) fn data_type(&self) -> DataType
         ensures { λ t. ⌜ t ≡ type-of (now (now (self .entry) .bytes)) (now (self .entry) .number) ⌝ }
     {
         match self.r.data_type() {
@@ -45,14 +45,14 @@ impl<'a> Node<'a> {
     }
 
     // How many children it has.
-    pub fn kids(&self) -> u32
+    pub(crate) fn kids(&self) -> u32
         ensures { λ k. ⌜ k ≡ kids (type-of (now (now (self .entry) .bytes)) (now (self .entry) .number)) (now (self .entry) .r) ⌝ }
     {
         self.data_type().table().listed(self.r.cnt)
     }
 
     // Whether a row is marked null.
-    pub fn is_marked(&self, row: u32) -> bool
+    pub(crate) fn is_marked(&self, row: u32) -> bool
         requires { ⌜ row < now self .r .rows ⌝ }
         ensures { λ b. ⌜ b ≡ (reads-nulls (type-of (now (now (self .entry) .bytes)) (now (self .entry) .number)) && marked (now (now (self .entry) .bytes)) (now (self .entry) .r) row) ⌝ }
     {

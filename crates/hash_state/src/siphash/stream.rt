@@ -64,6 +64,22 @@ fn through(mut state: State, bytes: &[u8], start: usize, end: usize) -> State
     state
 }
 
+// Tells the bytes to a hasher in which some may wait. Its two callers keep it a function of its own, so that they hold
+// no registers for it.
+fn after(h: &mut SipHasher, bytes: &[u8])
+    ensures { λ _. ⌜ ((bs : List ℕ) → told (now (h .exit)) bs ≡ told (now (h .entry)) (now (bytes .entry) ++ bs)) ⌝ }
+{
+    if bytes.len() < 8 {
+        *h = pushed(*h, bytes.len() as u64, short(bytes));
+        return;
+    }
+    let (state, start) = filled(*h, bytes);
+    let end = bytes.len() - (bytes.len() - start) % 8;
+    h.tail = end_at(bytes, end);
+    h.length = h.length.wrapping_add(bytes.len() as u64);
+    h.state = through(state, bytes, start, end);
+}
+
 pub impl Hasher for SipHasher as SipHasherHasher {
     ghost meaning = { λ h ws. told h (joined ws) };
 
@@ -87,17 +103,26 @@ pub impl Hasher for SipHasher as SipHasherHasher {
         *self = pushed(pushed(*self, 8, low), 8, high);
     }
 
+    // The part of a slice that is passed on is the whole: a slice passed on as it is would be copied at once to memory.
     fn write(&mut self, bytes: &[u8]) {
         if bytes.len() < 8 {
-            *self = pushed(*self, bytes.len() as u64, short(bytes));
+            if self.length % 8 == 0 {
+                self.tail = short(bytes);
+                self.length = self.length.wrapping_add(bytes.len() as u64);
+                return;
+            }
+            after(self, &bytes[0..]);
             return;
         }
-        let (state, start) = filled(*self, bytes);
-        let end = bytes.len() - (bytes.len() - start) % 8;
+        if self.length % 8 != 0 {
+            after(self, &bytes[0..]);
+            return;
+        }
+        let end = bytes.len() - bytes.len() % 8;
         // The words come last, so that the loop over them holds little besides the state.
         self.tail = end_at(bytes, end);
         self.length = self.length.wrapping_add(bytes.len() as u64);
-        self.state = through(state, bytes, start, end);
+        self.state = through(self.state, bytes, 0, end);
     }
 
     fn finish(&self) -> u64 {

@@ -1,18 +1,14 @@
-use mathlib.Core.Path.{_≡_, refl, sym, ap, ap₂, _∙_}
+use mathlib.Core.Path.{_≡_, refl, _∙_}
 use mathlib.Core.List.{List}
 use Prim.Native.Nat.{ℕ, _+_, _<_, _≤_}
 use native.Mathlib.Omega.{arith}
 use lib.ListN.{length}
 use Rattle.layout.specs.declared.record.Record.{Record}
-use Rattle.layout.specs.Records.{record-at}
 use Rattle.columns.specs.Jobs.{child-at, ended, kids, opened, plan, region, type-of}
 use Rattle.columns.specs.declared.job.Job.{Job}
+use Rattle.columns.proofs.AtNode.{at-node}
 use Rattle.columns.proofs.Machine as machine
 use Rattle.columns.proofs.walk.walk.Needs as need
-
--- what is said of a node that was read, said of the node of its number
-at-node : {X : Type 0} (F : List ℕ → ℕ → Record → X) (b bytes : List ℕ) (k number : ℕ) (r : Record) → r ≡ record-at b k → b ≡ bytes → k ≡ number → F b k r ≡ F bytes number (record-at bytes number)
-at-node F b bytes k number r read eb ek = ap (F b k) read ∙ ap₂ (λ (x : List ℕ) (y : ℕ). F x y (record-at x y)) eb ek
 
 kids-of : List ℕ → ℕ → Record → ℕ
 kids-of b k r = kids (type-of b k) r
