@@ -13,7 +13,7 @@ pub enum Invocation {
 
 impl Invocation {
     // The program's own name comes first.
-    pub fn parse(mut args: Args) -> Result<Invocation, Failure> {
+    pub(crate) fn parse(mut args: Args) -> Result<Invocation, Failure> {
         let _ = args.next();
         let Some(command) = args.next() else {
             return Err(Failure::NoCommand);

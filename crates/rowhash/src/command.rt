@@ -14,7 +14,7 @@ pub enum Command<'a> {
 impl<'a> Command<'a> {
     // The command of a line, or none where it is not understood. Blanks part words, and a path may
     // have some within it.
-    pub fn parse(heap: Global, line: &'a str) -> Result<Option<Command<'a>>, AllocError> {
+    pub(crate) fn parse(heap: Global, line: &'a str) -> Result<Option<Command<'a>>, AllocError> {
         let line = line.trim_ascii();
         let (name, rest) = match line.split_once([' ', '\t']) {
             Some((name, rest)) => (name, rest.trim_ascii_start()),

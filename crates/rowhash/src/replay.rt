@@ -23,7 +23,7 @@ struct Session {
 }
 
 // Begins with no bytes, which are no image, so that the empty one stands.
-pub fn replay(rt: &LibcRuntime) -> io::Result<()> {
+pub(crate) fn replay(rt: &LibcRuntime) -> io::Result<()> {
     let mut session = Session {
         rt: *rt,
         input: BufReader::new(rt.stdin()),

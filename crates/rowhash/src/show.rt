@@ -51,7 +51,7 @@ impl fmt::Display for NodeShown<'_, '_> as NodeShownDisplay {
     }
 }
 
-pub fn show(rt: &LibcRuntime, path: &str, node: Option<u64>) -> Result<(), Failure> {
+pub(crate) fn show(rt: &LibcRuntime, path: &str, node: Option<u64>) -> Result<(), Failure> {
     let bytes = match read_image(rt, path) {
         Ok(bytes) => bytes,
         Err(error) => return Err(Failure::Unreadable(String::from_str(rt.alloc(), path)?, error)),

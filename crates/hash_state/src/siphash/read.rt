@@ -6,7 +6,7 @@ ghost use lib.ListN.{drop, length};
 ghost use Rattle.hash_state.specs.Writes.{le-bytes};
 
 // The eight bytes at a place.
-pub fn word_at(bytes: &[u8], at: usize) -> u64
+pub(crate) fn word_at(bytes: &[u8], at: usize) -> u64
     requires { ⌜ at + 8 ≤ length (now bytes) ⌝ }
     ensures { λ r. ⌜ le-bytes 8 r ++ drop (at + 8) (now (bytes .entry)) ≡ drop at (now (bytes .entry)) ⌝ }
 {
@@ -46,7 +46,7 @@ fn few(bytes: &[u8]) -> u64
 }
 
 // Fewer than eight bytes: where there are four, by two reads of four that may overlap.
-pub fn short(bytes: &[u8]) -> u64
+pub(crate) fn short(bytes: &[u8]) -> u64
     requires { ⌜ length (now bytes) < 8 ⌝ }
     ensures low { λ r. ⌜ r < 2 ^ (8 * length (now (bytes .entry))) ⌝ }
     ensures same { λ r. ⌜ le-bytes (length (now (bytes .entry))) r ≡ now (bytes .entry) ⌝ }
@@ -60,7 +60,7 @@ pub fn short(bytes: &[u8]) -> u64
 }
 
 // The bytes from a place on, fewer than eight, out of the last eight.
-pub fn end_at(bytes: &[u8], at: usize) -> u64
+pub(crate) fn end_at(bytes: &[u8], at: usize) -> u64
     requires within { ⌜ at ≤ length (now bytes) ⌝ }
     requires short { ⌜ length (now bytes) < at + 8 ⌝ }
     requires long { ⌜ 8 ≤ length (now bytes) ⌝ }
