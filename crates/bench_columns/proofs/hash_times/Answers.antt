@@ -7,14 +7,14 @@ use Rattle.columns.proofs.There.{need_there, record_there}
 use Rattle.columns.proofs.Typed.{passed}
 use Rattle.bench_columns.proofs.hash_times.Goals as goal
 
-pub hash-column-requires : goal.hash-column-requires
-hash-column-requires g c =
+pub hash_column-requires : goal.hash_column-requires
+hash_column-requires g c =
     let B = c.admit.new.self.bytes.now in
     let r = record_there B c.args.node c.in-Some.r c.in-Some.ensures in
     let words = need_there B c.args.node c.in-Some-need.words c.in-Some-need.ensures in
     let rows = ap (λ (x : Record). x.rows) r.1 in
-    let none = c.no-list.ensures in
-    let met : met_rows (record_at B c.args.node).rows c.no-list.result ≡ c.in-Some.r.rows = ap (met_rows (record_at B c.args.node).rows) none ∙ sym rows in
+    let none = c.no_list.ensures in
+    let met : met_rows (record_at B c.args.node).rows c.no_list.result ≡ c.in-Some.r.rows = ap (met_rows (record_at B c.args.node).rows) none ∙ sym rows in
     record {
       there = r.0;
       rows = subst (RowsThere (record_at B c.args.node).rows) (sym none) (λ j l. l);

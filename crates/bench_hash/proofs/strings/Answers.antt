@@ -17,5 +17,5 @@ loop-i-preserved g c =
     let hash : ℕ → ℕ = λ j. g.S.BuildHasher.one c.args.state.now (Bytes (take n (drop (j % 64) c.args.bytes.now)) ∷ []) in
     let e : i % 64 + n - i % 64 ≡ n = omega arith in
     let one : c.finish-all.result ≡ hash i =
-    c.finish-all.ensures ∙ c.write.ensures [] ∙ c.build-hasher-hasher.ensures (Bytes (part (i % 64 + n - i % 64)) ∷ []) ∙ ap (λ (k : ℕ). g.S.BuildHasher.one c.args.state.now (Bytes (part k) ∷ [])) e in
+    c.finish-all.ensures ∙ c.write.ensures [] ∙ c.build_hasher-hasher.ensures (Bytes (part (i % 64 + n - i % 64)) ∷ []) ∙ ap (λ (k : ℕ). g.S.BuildHasher.one c.args.state.now (Bytes (part k) ∷ [])) e in
     ap₂ bit_xor c.loop-i.invariant one ∙ sym (ap (rows hash) (add-one i))

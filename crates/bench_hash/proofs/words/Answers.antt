@@ -9,4 +9,4 @@ use Rattle.bench_hash.proofs.words.Goals as goal
 pub loop-i-preserved : goal.loop-i-preserved
 loop-i-preserved g c =
     let hash : ℕ → ℕ = λ j. g.S.BuildHasher.one c.args.state.now (number 8 j) in
-    ap₂ bit_xor c.loop-i.invariant c.hash-one-all.ensures ∙ sym (ap (rows hash) (add-one c.loop-i.i-counter))
+    ap₂ bit_xor c.loop-i.invariant c.hash_one-all.ensures ∙ sym (ap (rows hash) (add-one c.loop-i.i-counter))

@@ -9,4 +9,4 @@ loop-rest-preserved c =
     let two : 2 ≤ length c.loop-rest.rest.now = search rules in
     c.loop-rest.invariant
     ∙ pairs_step c.loop-rest.rest.now (vec_items c.loop-rest.bytes) c.in-Some.byte two c.in-Some.ensures
-    ∙ ap (λ (done : List ℕ). option_map (λ bs. done ++ bs) (bytes_value (take (length c.loop-rest.rest.now - 2) (drop 2 c.loop-rest.rest.now)))) (sym c.in-ok-push.ensures.items)
+    ∙ ap (λ (done : List ℕ). option_map (λ bs. done ++ bs) (bytes_value (take (length c.loop-rest.rest.now - 2) (drop 2 c.loop-rest.rest.now)))) (sym c.in_ok-push.ensures.items)

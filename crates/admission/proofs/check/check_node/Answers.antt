@@ -8,7 +8,7 @@ pub highest-below-requires : goal.highest-below-requires
 highest-below-requires c k h =
     let there =
     children_behind c.args.bytes.now c.args.node c.read-r.result c.in-Some.data_type c.table-table.result c.listed.result
-    c.read-r.ensures c.in-Some.ensures c.table-table.ensures c.if-is-too-long.ensures c.if-is-bad-table.ensures c.if-is-bad-child.ensures
+    c.read-r.ensures c.in-Some.ensures c.table-table.ensures c.if-is_too_long.ensures c.if-is_bad_table.ensures c.if-is_bad_child.ensures
     c.listed.ensures k h in
     (there.0, omega (arith, there.2, c.requires.count))
 
@@ -16,29 +16,29 @@ pub returns-then-below-ge-MAX-HEIGHT : goal.returns-then-below-ge-MAX-HEIGHT
 returns-then-below-ge-MAX-HEIGHT c =
     let fault =
     high_fault c.args.bytes.now c.args.node c.read-r.result c.in-Some.data_type c.table-table.result c.listed.result
-    c.read-r.ensures c.in-Some.ensures c.table-table.ensures c.if-is-too-long.ensures c.if-is-bad-table.ensures c.if-is-bad-child.ensures
+    c.read-r.ensures c.in-Some.ensures c.table-table.ensures c.if-is_too_long.ensures c.if-is_bad_table.ensures c.if-is_bad_child.ensures
     c.listed.ensures c.args.heights.now c.requires.heights c.highest-below.result c.highest-below.ensures c.if-below-ge-MAX-HEIGHT.true in
     record { fault = sym (ap (λ (o : Option ℕ). at_node o c.args.node None) fault); height = tt }
 
-pub check-buffers-requires : goal.check-buffers-requires
-check-buffers-requires c =
+pub check_buffers-requires : goal.check_buffers-requires
+check_buffers-requires c =
     record {
-      short = sym c.if-is-too-long.ensures;
+      short = sym c.if-is_too_long.ensures;
       linked =
           passed_linked c.args.bytes.now c.args.node c.read-r.result c.in-Some.data_type c.table-table.result c.listed.result
-          c.read-r.ensures c.in-Some.ensures c.table-table.ensures c.if-is-too-long.ensures c.if-is-bad-table.ensures c.if-is-bad-child.ensures
+          c.read-r.ensures c.in-Some.ensures c.table-table.ensures c.if-is_too_long.ensures c.if-is_bad_table.ensures c.if-is_bad_child.ensures
           c.listed.ensures c.requires.headed;
     }
 
-pub returns-in-err-check-buffers : goal.returns-in-err-check-buffers
-returns-in-err-check-buffers c =
+pub returns-in_err-check_buffers : goal.returns-in_err-check_buffers
+returns-in_err-check_buffers c =
     let fault =
     low_fault c.args.bytes.now c.args.node c.read-r.result c.in-Some.data_type c.table-table.result c.listed.result
-    c.read-r.ensures c.in-Some.ensures c.table-table.ensures c.if-is-too-long.ensures c.if-is-bad-table.ensures c.if-is-bad-child.ensures
+    c.read-r.ensures c.in-Some.ensures c.table-table.ensures c.if-is_too_long.ensures c.if-is_bad_table.ensures c.if-is_bad_child.ensures
     c.listed.ensures c.args.heights.now c.requires.heights c.highest-below.result c.highest-below.ensures c.if-below-ge-MAX-HEIGHT.false in
     let p = err_from_is_err_and c.from-residual.result c.from-residual.ensures.1 in
     record {
-      fault = rw (p.1, p.2) (c.in-err-check-buffers.ensures ∙ sym (ap (λ (o : Option ℕ). at_node o c.args.node None) fault));
+      fault = rw (p.1, p.2) (c.in_err-check_buffers.ensures ∙ sym (ap (λ (o : Option ℕ). at_node o c.args.node None) fault));
       height = rw p.1 tt;
     }
 
@@ -46,10 +46,10 @@ pub returns : goal.returns
 returns c =
     let fault =
     low_fault c.args.bytes.now c.args.node c.read-r.result c.in-Some.data_type c.table-table.result c.listed.result
-    c.read-r.ensures c.in-Some.ensures c.table-table.ensures c.if-is-too-long.ensures c.if-is-bad-table.ensures c.if-is-bad-child.ensures
+    c.read-r.ensures c.in-Some.ensures c.table-table.ensures c.if-is_too_long.ensures c.if-is_bad_table.ensures c.if-is_bad_child.ensures
     c.listed.ensures c.args.heights.now c.requires.heights c.highest-below.result c.highest-below.ensures c.if-below-ge-MAX-HEIGHT.false in
     let height =
     passed_height c.args.bytes.now c.args.node c.read-r.result c.in-Some.data_type c.table-table.result c.listed.result
-    c.read-r.ensures c.in-Some.ensures c.table-table.ensures c.if-is-too-long.ensures c.if-is-bad-table.ensures c.if-is-bad-child.ensures
+    c.read-r.ensures c.in-Some.ensures c.table-table.ensures c.if-is_too_long.ensures c.if-is_bad_table.ensures c.if-is_bad_child.ensures
     c.listed.ensures c.args.heights.now c.requires.heights c.highest-below.result c.highest-below.ensures in
-    record { fault = c.in-ok-check-buffers.ensures ∙ sym (ap (λ (o : Option ℕ). at_node o c.args.node None) fault); height = height }
+    record { fault = c.in_ok-check_buffers.ensures ∙ sym (ap (λ (o : Option ℕ). at_node o c.args.node None) fault); height = height }

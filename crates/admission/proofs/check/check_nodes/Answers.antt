@@ -4,20 +4,20 @@ use Rattle.admission.specs.FirstFault.{numbered}
 use Rattle.admission.proofs.Scan.{passes, stops, heights_more}
 use Rattle.admission.proofs.check.check_nodes.Goals as goal
 
-pub returns-in-err-height : goal.returns-in-err-height
-returns-in-err-height c =
+pub returns-in_err-height : goal.returns-in_err-height
+returns-in_err-height c =
     let node : ℕ = c.loop-node.node - 1 in
     let next : c.loop-node.node ≡ suc node = omega arith in
     let p = err_from_is_err_and c.from-residual.result c.from-residual.ensures.1 in
     rw (p.1, p.2)
-    (sym (c.loop-node.invariant.0 ∙ stops c.args.bytes.now c.loop-node.node node next (numbered c.in-err-height.field-0.0) c.in-err-height.ensures.fault))
+    (sym (c.loop-node.invariant.0 ∙ stops c.args.bytes.now c.loop-node.node node next (numbered c.in_err-height.field-0.0) c.in_err-height.ensures.fault))
 
 pub loop-node-preserved : goal.loop-node-preserved
 loop-node-preserved c =
     let node : ℕ = c.loop-node.node - 1 in
     let next : c.loop-node.node ≡ suc node = omega arith in
     let within : node < length c.loop-node.heights = omega (arith, c.loop-node.invariant.2) in (
-      c.loop-node.invariant.0 ∙ passes c.args.bytes.now c.loop-node.node node next c.in-ok-height.ensures.fault,
-      heights_more c.args.bytes.now c.loop-node.node node next c.loop-node.heights c.in-ok-height.height within c.loop-node.invariant.1 c.in-ok-height.ensures.height,
-      length-set c.loop-node.heights node c.in-ok-height.height ∙ c.loop-node.invariant.2,
+      c.loop-node.invariant.0 ∙ passes c.args.bytes.now c.loop-node.node node next c.in_ok-height.ensures.fault,
+      heights_more c.args.bytes.now c.loop-node.node node next c.loop-node.heights c.in_ok-height.height within c.loop-node.invariant.1 c.in_ok-height.ensures.height,
+      length-set c.loop-node.heights node c.in_ok-height.height ∙ c.loop-node.invariant.2,
     )

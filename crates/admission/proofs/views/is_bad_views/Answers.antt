@@ -5,8 +5,8 @@ use Rattle.admission.specs.Seams.{Linked}
 use Rattle.admission.proofs.Reached.{view_there}
 use Rattle.admission.proofs.views.is_bad_views.Goals as goal
 
-pub fails-below-requires : goal.fails-below-requires
-fails-below-requires c =
+pub fails_below-requires : goal.fails_below-requires
+fails_below-requires c =
     let bytes = c.args.bytes.now in
     let r = c.args.r.now in
     view_there bytes r

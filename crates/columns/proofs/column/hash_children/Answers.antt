@@ -10,8 +10,8 @@ use Rattle.columns.proofs.column.hash_children.Goals as goal
 pub loop-stage-init : goal.loop-stage-init
 loop-stage-init g c = children_none _ _ _ _
 
-pub hash-child-requires : goal.hash-child-requires
-hash-child-requires g c =
+pub hash_child-requires : goal.hash_child-requires
+hash_child-requires g c =
     let s : ℕ = c.loop-stage.stage in
     let same = c.loop-stage.invariant.same in
     record {
@@ -22,7 +22,7 @@ hash-child-requires g c =
     }
 
 pub loop-stage-preserved : goal.loop-stage-preserved
-loop-stage-preserved g c = children_more c.args.at c.args.size c.loop-stage.stage _ c.args.work.now c.loop-stage.work c.hash-child.new.work c.loop-stage.invariant c.hash-child.ensures
+loop-stage-preserved g c = children_more c.args.at c.args.size c.loop-stage.stage _ c.args.work.now c.loop-stage.work c.hash_child.new.work c.loop-stage.invariant c.hash_child.ensures
 
 pub returns : goal.returns
 returns g c =

@@ -21,17 +21,17 @@ take_claimed at claimed w w' same e below =
           ap (take claimed) whole
     ]
 
-pub hash-rows-requires : goal.hash-rows-requires
-hash-rows-requires g c =
+pub hash_rows-requires : goal.hash_rows-requires
+hash_rows-requires g c =
     let image = c.args.image.now in
     let n = c.of-node.result in
     let bytes = c.of-node.ensures.bytes in
     let rows : n.r.rows ≡ (record_at image.bytes.now c.args.number).rows = at_node (λ b t r. r.rows) n image.bytes.now c.args.number bytes c.of-node.ensures.number in
-    let met : c.rows-met-rows.result ≡ met_rows (record_at image.bytes.now c.args.number).rows c.args.list = c.rows-met-rows.ensures ∙ ap (λ (m : ℕ). met_rows m c.args.list) rows in
-    let long : length (take (c.rows-met-rows.result - 0) c.args.entries.now) ≡ c.rows-met-rows.result = simp length-take (omega (arith, met, c.requires.entries)) in
+    let met : c.rows_met-rows.result ≡ met_rows (record_at image.bytes.now c.args.number).rows c.args.list = c.rows_met-rows.ensures ∙ ap (λ (m : ℕ). met_rows m c.args.list) rows in
+    let long : length (take (c.rows_met-rows.result - 0) c.args.entries.now) ≡ c.rows_met-rows.result = simp length-take (omega (arith, met, c.requires.entries)) in
     record {
       image = bytes;
-      rows = (long ∙ c.rows-met-rows.ensures, subst (λ (m : ℕ). RowsThere m c.args.list) (sym rows) c.requires.rows, omega (arith, long, met, c.requires.few));
+      rows = (long ∙ c.rows_met-rows.ensures, subst (λ (m : ℕ). RowsThere m c.args.list) (sym rows) c.requires.rows, omega (arith, long, met, c.requires.few));
       room = omega (arith, ap₂ need-of bytes c.of-node.ensures.number, c.min-at.ensures, c.requires.room);
     }
 
@@ -42,15 +42,15 @@ returns g c =
     let bytes = c.of-node.ensures.bytes in
     let es : List ℕ = c.args.entries.now in
     let rows : n.r.rows ≡ (record_at image.bytes.now c.args.number).rows = at_node (λ b t r. r.rows) n image.bytes.now c.args.number bytes c.of-node.ensures.number in
-    let R : ℕ = c.rows-met-rows.result in
-    let met : R ≡ met_rows (record_at image.bytes.now c.args.number).rows c.args.list = c.rows-met-rows.ensures ∙ ap (λ (m : ℕ). met_rows m c.args.list) rows in
+    let R : ℕ = c.rows_met-rows.result in
+    let met : R ≡ met_rows (record_at image.bytes.now c.args.number).rows c.args.list = c.rows_met-rows.ensures ∙ ap (λ (m : ℕ). met_rows m c.args.list) rows in
     let whole : R - 0 ≡ R = omega arith in
     let F : List ℕ → ℕ → ℕ → ℕ → ℕ = λ b k j e. number_of (g.S.BuildHasher.one c.args.state.now) (g.S.HashState.seeded c.args.state.now) c.args.first e (slot_at b k (met_row c.args.list j)) in
     record {
       entries =
-          ap (λ (xs : List ℕ). xs ++ post_of 0 (R - 0) es) c.hash-rows.ensures.words
+          ap (λ (xs : List ℕ). xs ++ post_of 0 (R - 0) es) c.hash_rows.ensures.words
           ∙ ap₂ (λ (b : List ℕ) (k : ℕ). by_place (F b k) 0 (take (R - 0) es) ++ post_of 0 (R - 0) es) bytes c.of-node.ensures.number
           ∙ ap₂ (λ (m : ℕ) (xs : List ℕ). by_place (F image.bytes.now c.args.number) 0 (take m es) ++ xs) whole (Post-is 0 R es (omega arith))
           ∙ ap (λ (m : ℕ). by_place (F image.bytes.now c.args.number) 0 (take m es) ++ drop m es) met;
-      work = take_claimed c.min-at.result c.args.claimed c.args.work.now c.hash-rows.new.work c.hash-rows.auto.work c.min-at.ensures c.hash-rows.ensures.below;
+      work = take_claimed c.min-at.result c.args.claimed c.args.work.now c.hash_rows.new.work c.hash_rows.auto.work c.min-at.ensures c.hash_rows.ensures.below;
     }

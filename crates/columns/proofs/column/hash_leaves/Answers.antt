@@ -16,8 +16,8 @@ rows_for : (list : Option (Bor (List ℕ))) (rows n : ℕ) → n ≡ met_rows ro
 rows_for None rows n e = tt
 rows_for (Some list) rows n e = sym e
 
-pub hash-leaf-requires : goal.hash-leaf-requires
-hash-leaf-requires g c =
+pub hash_leaf-requires : goal.hash_leaf-requires
+hash_leaf-requires g c =
     let n = c.args.node.now in
     let list = c.args.list in
     record {
@@ -33,7 +33,7 @@ pub returns : goal.returns
 returns g c =
     let n = c.args.node.now in
     let down = slot_within 15 n.bytes.now in
-    c.hash-leaf.ensures down
+    c.hash_leaf.ensures down
     ∙ by_place_same _ _ c.args.entries.now 0
     (λ j e l.
     ap (number_of (g.S.BuildHasher.one c.args.state.now) (g.S.HashState.seeded c.args.state.now) c.args.first e)

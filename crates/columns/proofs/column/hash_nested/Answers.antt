@@ -12,12 +12,12 @@ use Rattle.columns.proofs.Nodes.{node_fold, node_inside, node_room}
 use Rattle.columns.proofs.Splices.{get_or-lent, length-lent, take_same}
 use Rattle.columns.proofs.column.hash_nested.Goals as goal
 
-pub hash-children-requires : goal.hash-children-requires
-hash-children-requires g c =
+pub hash_children-requires : goal.hash_children-requires
+hash_children-requires g c =
     let n = c.args.node.now in
-    let lo : ℕ = c.range-met-lo.result.0 in
-    let count : ℕ = c.range-met-lo.result.1 in
-    let rows = c.range-met-lo.ensures.within in
+    let lo : ℕ = c.range_met-lo.result.0 in
+    let count : ℕ = c.range_met-lo.result.1 in
+    let rows = c.range_met-lo.ensures.within in
     let room = node_room n lo count rows in
     record {
       image = c.requires.image;
@@ -25,26 +25,26 @@ hash-children-requires g c =
       room = λ s h. omega (arith, room.1 s h, c.reach_from.ensures.size, c.requires.room);
     }
 
-pub slice-bounds-fold-column-end : goal.slice-bounds-fold-column-end
-slice-bounds-fold-column-end g c =
-    let room = node_room c.args.node.now c.range-met-lo.result.0 c.range-met-lo.result.1 c.range-met-lo.ensures.within in
-    omega (arith, room.0, c.reach_from.ensures.size, c.requires.room, c.hash-children.ensures.same)
+pub slice-bounds-fold_column-end : goal.slice-bounds-fold_column-end
+slice-bounds-fold_column-end g c =
+    let room = node_room c.args.node.now c.range_met-lo.result.0 c.range_met-lo.result.1 c.range_met-lo.ensures.within in
+    omega (arith, room.0, c.reach_from.ensures.size, c.requires.room, c.hash_children.ensures.same)
 
-pub fold-column-requires : goal.fold-column-requires
-fold-column-requires g c =
+pub fold_column-requires : goal.fold_column-requires
+fold_column-requires g c =
     let n = c.args.node.now in
-    let lo : ℕ = c.range-met-lo.result.0 in
-    let count : ℕ = c.range-met-lo.result.1 in
-    let rows = c.range-met-lo.ensures.within in
+    let lo : ℕ = c.range_met-lo.result.0 in
+    let count : ℕ = c.range_met-lo.result.1 in
+    let rows = c.range_met-lo.ensures.within in
     let at : ℕ = c.args.at in
     let room = node_room n lo count rows in
-    let long = length-lent at c.reach_from.result.1 c.hash-children.new.work (omega (arith, room.0, c.reach_from.ensures.size, c.requires.room, c.hash-children.ensures.same)) in
+    let long = length-lent at c.reach_from.result.1 c.hash_children.new.work (omega (arith, room.0, c.reach_from.ensures.size, c.requires.room, c.hash_children.ensures.same)) in
     record {
       nested = c.requires.nested;
       rows = c.requires.rows;
       reached = λ j l m.
-          let met = c.range-met-lo.ensures.met j (omega (arith, c.requires.rows.0)) in
-          subst (λ (k : ℕ). FoldThere n.t n.bytes.now n.r (n.r.start + met_row c.args.list j) k (length (take (at + c.reach_from.result.1 - at) (drop at c.hash-children.new.work))))
+          let met = c.range_met-lo.ensures.met j (omega (arith, c.requires.rows.0)) in
+          subst (λ (k : ℕ). FoldThere n.t n.bytes.now n.r (n.r.start + met_row c.args.list j) k (length (take (at + c.reach_from.result.1 - at) (drop at c.hash_children.new.work))))
           (sym c.reach_from.ensures.from)
           (subst (FoldThere n.t n.bytes.now n.r (n.r.start + met_row c.args.list j) (reach_from n.t n.bytes.now n.r lo)) (sym (long ∙ c.reach_from.ensures.size))
           (node_fold n lo count (met_row c.args.list j) rows met.0 met.1 m));
@@ -55,22 +55,22 @@ returns g c =
     let ONE = g.S.BuildHasher.one c.args.state.now in
     let SEED = g.S.HashState.seeded c.args.state.now in
     let n = c.args.node.now in
-    let lo : ℕ = c.range-met-lo.result.0 in
-    let count : ℕ = c.range-met-lo.result.1 in
-    let rows = c.range-met-lo.ensures.within in
+    let lo : ℕ = c.range_met-lo.result.0 in
+    let count : ℕ = c.range_met-lo.result.1 in
+    let rows = c.range_met-lo.ensures.within in
     let at : ℕ = c.args.at in
     let size : ℕ = c.reach_from.result.1 in
     let w : List ℕ = c.args.work.now in
-    let w' : List ℕ = c.hash-children.new.work in
+    let w' : List ℕ = c.hash_children.new.work in
     let numbers : List ℕ = take (at + size - at) (drop at w') in
-    let did = c.hash-children.ensures in
+    let did = c.hash_children.ensures in
     record {
       words =
-          c.fold-column.ensures
+          c.fold_column.ensures
           ∙ ap (λ (from : ℕ). by_place (λ j e. row_number n.t n.bytes.now n.r (standing numbers from) c.args.first e (met_row c.args.list j)) 0 c.args.entries.now) c.reach_from.ensures.from
           ∙ by_place_same _ _ c.args.entries.now 0
           (λ j e l.
-          let met = c.range-met-lo.ensures.met j (omega (arith, c.requires.rows.0)) in
+          let met = c.range_met-lo.ensures.met j (omega (arith, c.requires.rows.0)) in
           node_number ONE SEED n lo count (met_row c.args.list j) numbers (λ x. get_or w (at + x) 0) c.args.first e rows met.0 met.1 c.requires.nested
           (λ x m.
           get_or-lent at size w' x (omega (arith, c.reach_from.ensures.size))

@@ -11,13 +11,13 @@ use Rattle.columns.proofs.Needed.{need_by, need_small}
 use Rattle.columns.proofs.Typed.{passed}
 use Rattle.columns.proofs.needs.need_from.Goals as goal
 
-pub need-of-requires : goal.need-of-requires
-need-of-requires c =
+pub need_of-requires : goal.need_of-requires
+need_of-requires c =
     let B = c.args.image.now.bytes.now in
     let sound = c.args.image.now.sound in
     let n = c.of-node.result in
     let at : ℕ = c.loop-at.at - 1 in
-    let there : at < nodes B = omega (arith, c.node-count-at.ensures, c.loop-at.auto.at) in
+    let there : at < nodes B = omega (arith, c.node_count-at.ensures, c.loop-at.auto.at) in
     let p = passed B sound at there in
     of_node (λ b t r. (i : ℕ) → i < kids t r → (child b r i < 256) × (get_or c.loop-at.needs (child b r i) 0 ≤ 16777216))
     n B at c.of-node.ensures.bytes c.of-node.ensures.number
@@ -34,10 +34,10 @@ loop-at-preserved c =
     let n = c.of-node.result in
     let needs : List ℕ = c.loop-at.needs in
     let at : ℕ = c.loop-at.at - 1 in
-    let there : at < nodes B = omega (arith, c.node-count-at.ensures, c.loop-at.auto.at) in
+    let there : at < nodes B = omega (arith, c.node_count-at.ensures, c.loop-at.auto.at) in
     let p = passed B sound at there in
-    let made : c.need-of.result ≡ need-of-node B at =
-    c.need-of.ensures
+    let made : c.need_of.result ≡ need-of-node B at =
+    c.need_of.ensures
     ∙ at_node (λ b t r. most (needs_of b r needs) (kids t r)) n B at c.of-node.ensures.bytes c.of-node.ensures.number
     ∙ need_by B sound at needs there
     (λ i l.
@@ -46,8 +46,8 @@ loop-at-preserved c =
     let within : at < length needs = omega (arith, c.loop-at.invariant.1, sound_few B sound (omega arith)) in (
       (λ k low high.
           elim (cases_eq k at) [
-            | inl q ↦ ap (λ (x : ℕ). get_or (set needs at c.need-of.result) x 0) q ∙ get_or-set_same needs at c.need-of.result 0 within ∙ made ∙ sym (ap (need-of-node B) q)
-            | inr q ↦ get_or-set_other needs at k c.need-of.result 0 q ∙ c.loop-at.invariant.0 k (omega arith) high
+            | inl q ↦ ap (λ (x : ℕ). get_or (set needs at c.need_of.result) x 0) q ∙ get_or-set_same needs at c.need_of.result 0 within ∙ made ∙ sym (ap (need-of-node B) q)
+            | inr q ↦ get_or-set_other needs at k c.need_of.result 0 q ∙ c.loop-at.invariant.0 k (omega arith) high
           ]),
-      length-set needs at c.need-of.result ∙ c.loop-at.invariant.1,
+      length-set needs at c.need_of.result ∙ c.loop-at.invariant.1,
     )

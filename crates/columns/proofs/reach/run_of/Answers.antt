@@ -4,12 +4,12 @@ use Rattle.layout.specs.Nodes.{child_rows, element}
 use Rattle.columns.proofs.Reaching.{ends_rise, first_is}
 use Rattle.columns.proofs.reach.run_of.Goals as goal
 
-pub loop-low-preserved-then-element-at-at : goal.loop-low-preserved-then-element-at-at
-loop-low-preserved-then-element-at-at c =
+pub loop-low-preserved-then-element_at-at : goal.loop-low-preserved-then-element_at-at
+loop-low-preserved-then-element_at-at c =
     let middle : ℕ = c.loop-low.low + (c.loop-low.high - c.loop-low.low) / 2 in
     let bytes = c.args.bytes.now in
     let r = c.args.r.now in
-    let above : c.args.at < element c.args.width bytes r.a middle = omega (arith, c.element-at.ensures, c.if-element-at-at.true) in (
+    let above : c.args.at < element c.args.width bytes r.a middle = omega (arith, c.element_at.ensures, c.if-element_at-at.true) in (
       omega arith,
       omega (arith, c.loop-low.invariant.1),
       c.loop-low.invariant.2,
@@ -21,7 +21,7 @@ loop-low-preserved c =
     let middle : ℕ = c.loop-low.low + (c.loop-low.high - c.loop-low.low) / 2 in
     let bytes = c.args.bytes.now in
     let r = c.args.r.now in
-    let below : element c.args.width bytes r.a middle ≤ c.args.at = omega (arith, c.element-at.ensures, c.if-element-at-at.false) in (
+    let below : element c.args.width bytes r.a middle ≤ c.args.at = omega (arith, c.element_at.ensures, c.if-element_at-at.false) in (
       omega arith,
       c.loop-low.invariant.1,
       (λ k l. omega (arith, ends_rise c.args.width bytes r c.requires.ordered k middle (omega arith) (omega (arith, c.requires.runs, c.loop-low.invariant.1)))),

@@ -30,8 +30,8 @@ by_place_each f at n w h =
     ∙ ap (f i) (get_or-part at n w i m)
     ∙ sym (get_or-each (λ i. f i (get_or w (at + i) 0)) n i m))
 
-pub hash-leaf-requires : goal.hash-leaf-requires
-hash-leaf-requires g c =
+pub hash_leaf-requires : goal.hash_leaf-requires
+hash_leaf-requires g c =
     let n = c.args.node.now in
     let j = c.args.job in
     let long = length-lent j.at j.n c.args.work.now c.requires.room in
@@ -40,9 +40,9 @@ hash-leaf-requires g c =
       leaf = c.requires.leaf;
       typed = node_typed n;
       readable = λ i l.
-          subst (λ (o : Option (Bor (List ℕ))). LeafRow n.bytes.now n.t n.r (row_of j.lo o i)) (sym c.no-list.ensures)
+          subst (λ (o : Option (Bor (List ℕ))). LeafRow n.bytes.now n.t n.r (row_of j.lo o i)) (sym c.no_list.ensures)
           (node_leaf n (j.lo + i) (omega (arith, c.requires.rows, long)));
-      listed = subst (λ (o : Option (Bor (List ℕ))). RowsFor o (length (take (j.at + j.n - j.at) (drop j.at c.args.work.now)))) (sym c.no-list.ensures) tt;
+      listed = subst (λ (o : Option (Bor (List ℕ))). RowsFor o (length (take (j.at + j.n - j.at) (drop j.at c.args.work.now)))) (sym c.no_list.ensures) tt;
       fits = omega (arith, c.requires.rows, few.0, long);
     }
 
@@ -54,8 +54,8 @@ returns g c =
     let ONE = g.S.BuildHasher.one c.args.state.now in
     let SEED = g.S.HashState.seeded c.args.state.now in
     let f : Option (Bor (List ℕ)) → ℕ → ℕ → ℕ = λ o i e. number_of ONE SEED j.first e (typed_slot n.t n.bytes.now n.r (λ _ _. null) (row_of j.lo o i)) in
-    let told : c.hash-leaf.new.entries ≡ by_place (f None) 0 (take (j.at + j.n - j.at) (drop j.at w)) =
-    c.hash-leaf.ensures (λ _ _. null)
-    ∙ ap (λ (o : Option (Bor (List ℕ))). by_place (f o) 0 (take (j.at + j.n - j.at) (drop j.at w))) c.no-list.ensures in
-    put_mid-splice j.at j.n w c.hash-leaf.new.entries (by_place (f None) 0) told
+    let told : c.hash_leaf.new.entries ≡ by_place (f None) 0 (take (j.at + j.n - j.at) (drop j.at w)) =
+    c.hash_leaf.ensures (λ _ _. null)
+    ∙ ap (λ (o : Option (Bor (List ℕ))). by_place (f o) 0 (take (j.at + j.n - j.at) (drop j.at w))) c.no_list.ensures in
+    put_mid-splice j.at j.n w c.hash_leaf.new.entries (by_place (f None) 0) told
     ∙ ap (splice j.at j.n w) (by_place_each (f None) j.at j.n w c.requires.room)

@@ -6,13 +6,13 @@ use Rattle.columns.specs.Fold.{unless_marked}
 use Rattle.columns.specs.Jobs.{standing}
 use Rattle.columns.proofs.words.fold_entries.Goals as goal
 
-pub fold-row-requires : goal.fold-row-requires
-fold-row-requires g c =
+pub fold_row-requires : goal.fold_row-requires
+fold_row-requires g c =
     let n = c.args.node in
     let j : ℕ = c.loop-j.j in
     let both =
     subst (λ (k : ℕ). (k < n.r.rows) × ((reads_nulls n.t && marked n.bytes.now n.r k) ≡ false → g.A.NestedArray.reached c.args.array (n.r.start + k) c.args.region.from (length c.args.region.numbers.now)))
-    (sym c.row-met-row.ensures) (c.requires.rows.1 j (omega (arith, c.requires.rows.0, c.loop-j.auto.entries)), c.requires.reached j (omega (arith, c.loop-j.auto.entries))) in
+    (sym c.row_met-row.ensures) (c.requires.rows.1 j (omega (arith, c.requires.rows.0, c.loop-j.auto.entries)), c.requires.reached j (omega (arith, c.loop-j.auto.entries))) in
     record { row = both.0; reached = both.1 }
 
 pub loop-j-preserved : goal.loop-j-preserved
@@ -22,8 +22,8 @@ loop-j-preserved g c =
     let es : List ℕ = c.loop-j.entries in
     let j : ℕ = c.loop-j.j in
     let number : ℕ → ℕ → ℕ = λ row e. unless_marked n.t n.bytes.now n.r row e (g.A.NestedArray.folded c.args.array v c.args.first e (n.r.start + row)) in
-    made_written (λ k e. number (met_row c.args.list k) e) es j (omega (arith, c.loop-j.auto.entries)) c.fold-row.result
-    (c.fold-row.ensures ∙ ap (λ (row : ℕ). number row (get_or es j 0)) c.row-met-row.ensures)
+    made_written (λ k e. number (met_row c.args.list k) e) es j (omega (arith, c.loop-j.auto.entries)) c.fold_row.result
+    (c.fold_row.ensures ∙ ap (λ (row : ℕ). number row (get_or es j 0)) c.row_met-row.ensures)
     ∙ c.loop-j.invariant
 
 pub returns : goal.returns

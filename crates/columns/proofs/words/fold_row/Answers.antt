@@ -9,6 +9,6 @@ fold-requires g c =
     record {
       reached =
           subst (λ (at : ℕ). g.A.NestedArray.reached c.args.array.now at c.args.region.from (length c.args.region.numbers.now)) (sym c.element.ensures)
-          (c.requires.reached (sym c.if-is-marked.ensures));
+          (c.requires.reached (sym c.if-is_marked.ensures));
       small = omega (arith, c.element.ensures, c.requires.row, few.0, few.1);
     }

@@ -4,8 +4,8 @@ use Rattle.columns.specs.Jobs.{part, standing}
 use Rattle.columns.proofs.Splices.{each_written, part_kept, written_more}
 use Rattle.columns.proofs.words.fold_words.Goals as goal
 
-pub number-at-number-requires : goal.number-at-number-requires
-number-at-number-requires g c =
+pub number_at-number-requires : goal.number_at-number-requires
+number_at-number-requires g c =
     record {
       row = omega (arith, c.requires.rows);
       word = omega (arith, c.requires.room, c.loop-i.auto.work);
@@ -23,11 +23,11 @@ loop-i-preserved g c =
     let start : ℕ = j.at + j.n in
     let inv = c.loop-i.invariant in
     let number =
-    c.number-at-number.ensures
+    c.number_at-number.ensures
     ∙ ap₂ (λ (e : ℕ) (numbers : List ℕ). unless_marked n.t n.bytes.now n.r (j.lo + i) e (g.A.NestedArray.folded c.args.array (standing numbers c.args.from) j.first e (n.r.start + (j.lo + i))))
     (inv.2 (j.at + i) (omega arith))
     (part_kept start c.args.size w s c.loop-i.auto.work c.requires.room (λ k l. inv.2 k (omega arith))) in
-    written_more j.at _ w s i c.number-at-number.result (omega (arith, c.loop-i.auto.work, c.requires.room)) inv number
+    written_more j.at _ w s i c.number_at-number.result (omega (arith, c.loop-i.auto.work, c.requires.room)) inv number
 
 pub returns : goal.returns
 returns g c =

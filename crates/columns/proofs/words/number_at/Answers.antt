@@ -15,6 +15,6 @@ returns g c =
     let w : List ℕ = c.args.work.now in
     let row : ℕ = j.lo + c.args.i in
     let e : ℕ = get_or w (j.at + c.args.i) 0 in
-    c.fold-row.ensures
+    c.fold_row.ensures
     ∙ ap (λ (numbers : List ℕ). unless_marked n.t n.bytes.now n.r row e (g.A.NestedArray.folded c.args.array.now (standing numbers c.args.from) j.first e (n.r.start + row)))
     (lent_part (j.at + j.n) c.args.size w)

@@ -9,11 +9,11 @@ row_there : (lo n j : ℕ) (rows : Option (Bor (List ℕ))) → RowsFor rows n �
 row_there lo n j None listed fits h = omega arith
 row_there lo n j (Some list) listed fits h = omega arith
 
-pub row-of-requires : goal.row-of-requires
-row-of-requires g c = row_there c.args.lo (length c.args.entries.now) c.loop-j.j c.args.rows c.requires.listed c.requires.fits (omega arith)
+pub row_of-requires : goal.row_of-requires
+row_of-requires g c = row_there c.args.lo (length c.args.entries.now) c.loop-j.j c.args.rows c.requires.listed c.requires.fits (omega arith)
 
 pub value-requires : goal.value-requires
-value-requires g c = subst (g.A.Accessor.ready c.args.array) (sym c.row-of.ensures) (c.requires.ready c.loop-j.j (omega arith))
+value-requires g c = subst (g.A.Accessor.ready c.args.array) (sym c.row_of.ensures) (c.requires.ready c.loop-j.j (omega arith))
 
 pub loop-j-preserved : goal.loop-j-preserved
 loop-j-preserved g c =
@@ -26,14 +26,14 @@ loop-j-preserved g c =
     let j : ℕ = c.loop-j.j in
     let e : ℕ = get_or es j 0 in
     let h : j < length es = omega (arith, c.loop-j.auto.entries) in
-    let met : number_of ONE SEED first e (at c.row-of.result) ≡ f j e = ap (λ (row : ℕ). number_of ONE SEED first e (at row)) c.row-of.ensures in
+    let met : number_of ONE SEED first e (at c.row_of.result) ≡ f j e = ap (λ (row : ℕ). number_of ONE SEED first e (at row)) c.row_of.ensures in
     elim c.match-value.branch [
       | in-Some w ↦
           ap (Made f (j + 1)) w.entries-is
-          ∙ made_written f es j h w.hash-entry.result (w.hash-entry.ensures ∙ entry_told ONE SEED first e (at c.row-of.result) w.in-Some.ensures ∙ met)
+          ∙ made_written f es j h w.hash_entry.result (w.hash_entry.ensures ∙ entry_told ONE SEED first e (at c.row_of.result) w.in-Some.ensures ∙ met)
           ∙ c.loop-j.invariant
       | in-default w ↦
-          ap (Made f (j + 1)) w.entries-is ∙ made_kept f es j h (kept_null ONE SEED first e (at c.row-of.result) w.in-default.ensures ∙ met) ∙ c.loop-j.invariant
+          ap (Made f (j + 1)) w.entries-is ∙ made_kept f es j h (kept_null ONE SEED first e (at c.row_of.result) w.in-default.ensures ∙ met) ∙ c.loop-j.invariant
     ]
 
 pub returns : goal.returns

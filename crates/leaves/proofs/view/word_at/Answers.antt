@@ -5,7 +5,7 @@ use Rattle.leaves.proofs.view.word_at.Goals as goal
 pub returns : goal.returns
 returns c =
     record {
-      whole = c.u64-at-whole.ensures;
-      low = low_half c.args.bytes.now (λ i. omega (arith, c.type-inv.bytes i)) c.args.place c.u64-at-whole.result c.u64-at-whole.ensures;
-      high = high_half c.args.bytes.now (λ i. omega (arith, c.type-inv.bytes i)) c.args.place c.u64-at-whole.result c.u64-at-whole.ensures;
+      whole = c.u64_at-whole.ensures;
+      low = low_half c.args.bytes.now (λ i. omega (arith, c.type-inv.bytes i)) c.args.place c.u64_at-whole.result c.u64_at-whole.ensures;
+      high = high_half c.args.bytes.now (λ i. omega (arith, c.type-inv.bytes i)) c.args.place c.u64_at-whole.result c.u64_at-whole.ensures;
     }

@@ -7,8 +7,8 @@ use Rattle.columns.proofs.Nodes.{mark_is}
 use Rattle.columns.proofs.References.{values_rows}
 use Rattle.columns.proofs.fold.References.refer_to.Goals as goal
 
-pub is-marked-requires : goal.is-marked-requires
-is-marked-requires c = omega (arith, c.requires.row, values_rows c.args.self.now)
+pub is_marked-requires : goal.is_marked-requires
+is_marked-requires c = omega (arith, c.requires.row, values_rows c.args.self.now)
 
 pub returns : goal.returns
 returns c =

@@ -21,6 +21,6 @@ invariant-of-result c =
       n.sound,
       (
         subst (λ (k : ℕ). k < nodes n.bytes.now) (sym c.child-number.ensures) there,
-        (c.read-r.ensures, (c.type-of-t.ensures ∙ ap (λ (r : Record). or_null (data_type r)) c.read-r.ensures, tt)),
+        (c.read-r.ensures, (c.type_of-t.ensures ∙ ap (λ (r : Record). or_null (data_type r)) c.read-r.ensures, tt)),
       ),
     )

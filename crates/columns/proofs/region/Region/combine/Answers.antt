@@ -22,12 +22,12 @@ loop-number-preserved c =
     let first : ℕ = start - r.from in
     let index : ℕ = c.loop-number.number-index in
     let long : length (take (first + c.args.count - first) (drop first xs)) ≤ c.args.count = simp (length-take, length-drop) (omega arith) in
-    let here : c.combine-hashes-e.result ≡ C c.loop-number.e (standing xs r.from (start + index)) =
-    c.combine-hashes-e.ensures.number
+    let here : c.combine_hashes-e.result ≡ C c.loop-number.e (standing xs r.from (start + index)) =
+    c.combine_hashes-e.ensures.number
     ∙ ap (C c.loop-number.e)
     (get_or-take (first + c.args.count - first) (drop first xs) index 0 (omega arith) ∙ get_or-drop first xs index 0 ∙ ap (λ (k : ℕ). get_or xs k 0) (omega arith)) in
     c.loop-number.invariant
-    ∙ combined_more (standing xs r.from) c.loop-number.e (start + index) (c.args.count - index) (c.args.count - (index + 1)) (start + (index + 1)) c.combine-hashes-e.result
+    ∙ combined_more (standing xs r.from) c.loop-number.e (start + index) (c.args.count - index) (c.args.count - (index + 1)) (start + (index + 1)) c.combine_hashes-e.result
     (omega arith) (omega arith) here
 
 pub returns : goal.returns

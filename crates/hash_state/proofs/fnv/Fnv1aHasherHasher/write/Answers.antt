@@ -10,7 +10,7 @@ returns c ws =
     let h : ℕ = c.args.self.now.hash in
     let odd : ℕ = length xs % 8 in
     ap (λ (n : ℕ). fnv1a n (joined ws))
-    (c.hashed-blocks.ensures
+    (c.hashed_blocks.ensures
     ∙ ap (λ (n : ℕ). fnv1a n (take (length xs - odd) (drop odd xs))) c.hashed.ensures
     ∙ fnv1a_parts xs odd h)
     ∙ sym (fnv1a-append xs (joined ws) h)

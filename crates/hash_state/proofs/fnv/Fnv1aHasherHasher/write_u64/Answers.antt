@@ -7,4 +7,4 @@ use Rattle.hash_state.proofs.fnv.Fnv1aHasherHasher.write_u64.Goals as goal
 pub returns : goal.returns
 returns c ws =
     ap (λ (h : ℕ). fnv1a h (joined ws))
-    (c.hashed.ensures ∙ ap (fnv1a c.args.self.now.hash) (c.to-le-bytes.ensures ∙ eight_bytes c.args.v))
+    (c.hashed.ensures ∙ ap (fnv1a c.args.self.now.hash) (c.to_le_bytes.ensures ∙ eight_bytes c.args.v))

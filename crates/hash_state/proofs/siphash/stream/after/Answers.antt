@@ -11,4 +11,4 @@ returns c bs =
     let n : ℕ = (h.length + length xs) % 2 ^ 64 in
     let j : ℕ = length xs - (length xs - f.result.1) % 8 in
     let left : n % 8 ≡ length xs - j = omega (arith, mod_8 (h.length + length xs), f.ensures.taken) in
-    through_all (seen h.state) (seen f.result.0) (seen c.through-h.result) h.length (n % 8) h.tail c.end-at-h.result f.result.1 j xs bs f.ensures.same c.through-h.ensures c.end-at-h.ensures.same left
+    through_all (seen h.state) (seen f.result.0) (seen c.through-h.result) h.length (n % 8) h.tail c.end_at-h.result f.result.1 j xs bs f.ensures.same c.through-h.ensures c.end_at-h.ensures.same left

@@ -9,5 +9,5 @@ returns c =
     record {
       taken = omega arith;
       same = λ z bs.
-          topped (seen h.state) (seen c.compressed.result) z (h.length % 8) h.tail c.word-at.result c.args.bytes.now bs h.low (omega arith) c.compressed.ensures c.word-at.ensures;
+          topped (seen h.state) (seen c.compressed.result) z (h.length % 8) h.tail c.word_at.result c.args.bytes.now bs h.low (omega arith) c.compressed.ensures c.word_at.ensures;
     }

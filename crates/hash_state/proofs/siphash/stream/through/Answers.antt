@@ -8,7 +8,7 @@ loop-i-preserved c = (
   omega arith,
   omega arith,
   λ z bs.
-      stepped (seen c.loop-i.state) (seen c.compressed-state.result) z c.word-at.result c.loop-i.i c.args.bytes.now bs (omega arith) c.compressed-state.ensures c.word-at.ensures
+      stepped (seen c.loop-i.state) (seen c.compressed-state.result) z c.word_at.result c.loop-i.i c.args.bytes.now bs (omega arith) c.compressed-state.ensures c.word_at.ensures
       ∙ c.loop-i.invariant.2 z bs,
 )
 

@@ -10,5 +10,5 @@ returns c =
     let size : ℕ = c.args.self.now.size in
     let place : ℕ = a + size * c.element.result in
     let long : place + size - place ≡ size = omega arith in
-    told_unmarked c.is_null.ensures c.if-is-null.false
+    told_unmarked c.is_null.ensures c.if-is_null.false
     (told_binary _ _ (ap (part bytes place) long ∙ ap (λ (k : ℕ). part bytes (a + size * k) size) c.element.ensures))

@@ -8,8 +8,8 @@ returns-then-size-le12 c =
     let r = c.args.self.now.record in
     let place : ℕ = r.a + 16 * c.element.result in
     inline_told c.args.self.now.bytes.now r c.args.row c.requires.there c.requires.unmarked c.requires.padded
-    place c.word-at-begin.result.low (ap (λ (k : ℕ). r.a + 16 * k) c.element.ensures) c.word-at-begin.ensures.low
-    c.word-at-begin.result.whole c.word-at-end.result.whole c.if-size-le12.true c.word-at-begin.ensures.whole c.word-at-end.ensures.whole
+    place c.word_at-begin.result.low (ap (λ (k : ℕ). r.a + 16 * k) c.element.ensures) c.word_at-begin.ensures.low
+    c.word_at-begin.result.whole c.word_at-end.result.whole c.if-size-le12.true c.word_at-begin.ensures.whole c.word_at-end.ensures.whole
 
 pub returns : goal.returns
 returns c =
@@ -18,5 +18,5 @@ returns c =
     let place : ℕ = r.a + 16 * c.element.result in
     let q : place + 8 + 4 ≡ place + 12 = omega arith in
     long_told bytes r c.args.row c.requires.there c.requires.unmarked c.requires.padded
-    place c.word-at-begin.result.low (ap (λ (k : ℕ). r.a + 16 * k) c.element.ensures) c.word-at-begin.ensures.low
-    c.word-at-end.result.low c.u32-at.result c.word-at-end.result.high c.if-size-le12.false c.word-at-end.ensures.low c.u32-at.ensures (c.word-at-end.ensures.high ∙ ap (field 4 bytes) q)
+    place c.word_at-begin.result.low (ap (λ (k : ℕ). r.a + 16 * k) c.element.ensures) c.word_at-begin.ensures.low
+    c.word_at-end.result.low c.u32_at.result c.word_at-end.result.high c.if-size-le12.false c.word_at-end.ensures.low c.u32_at.ensures (c.word_at-end.ensures.high ∙ ap (field 4 bytes) q)

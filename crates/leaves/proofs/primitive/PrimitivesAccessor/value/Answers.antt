@@ -10,4 +10,4 @@ returns g c =
     let a : ℕ = c.args.self.now.column.record.a in
     let At : ℕ → Type 0 = λ place.
     Tells g.T.HashValue.seeding (g.T.HashValue.writes c.load.result) (g.T.HashValue.seed_writes c.load.result) (g.T.Primitive.slot (field (wide g.T.Primitive.width) bytes place)) in
-    told_unmarked c.is_null.ensures c.if-is-null.false (subst At (ap₂ (λ (w k : ℕ). a + w * k) c.width.ensures c.element.ensures) c.load.ensures)
+    told_unmarked c.is_null.ensures c.if-is_null.false (subst At (ap₂ (λ (w k : ℕ). a + w * k) c.width.ensures c.element.ensures) c.load.ensures)

@@ -35,4 +35,4 @@ returns c ws =
     let j : ℕ = length xs - length xs % 8 in
     let none : 0 ≡ h.length % 8 = omega arith in
     let left : n % 8 ≡ length xs - j = omega (arith, mod_8 (h.length + length xs), none) in
-    through_all s s (seen c.through-self.result) h.length (n % 8) h.tail c.end-at-self.result 0 j xs (joined ws) (λ z cs. ap (λ (k : ℕ). finished s z (le_bytes k h.tail ++ (xs ++ cs))) none) c.through-self.ensures c.end-at-self.ensures.same left
+    through_all s s (seen c.through-self.result) h.length (n % 8) h.tail c.end_at-self.result 0 j xs (joined ws) (λ z cs. ap (λ (k : ℕ). finished s z (le_bytes k h.tail ++ (xs ++ cs))) none) c.through-self.ensures c.end_at-self.ensures.same left
