@@ -3,13 +3,12 @@ use Rattle.std.proofs.Common.{◌≡◌, ℕ, zero, suc, ◌+◌, ◌*◌, ◌<�
 use Rattle.std.proofs.lemmas.Bool.{cases_eq, ltb-false, or_parts, true≢false}
 use Rattle.layout.specs.declared.record.Record.{Record}
 use Rattle.layout.specs.declared.data_type.DataType.{DataType}
-use Rattle.layout.specs.Nodes.{child, listed, table}
+use Rattle.layout.specs.Nodes.{table}
 use Rattle.layout.specs.Records.{nodes, record_at}
 use Rattle.layout.specs.Types.{data_type}
 use Rattle.admission.specs.FirstFault.{at_node, bad_header, buffer_fault, fault_below, first_fault, node_fault, sound, typed_fault}
 use Rattle.admission.specs.Rejections.{bad_buffer, bad_child, bad_order, bad_table, bad_views, out_of_reach, too_high, too_long}
-use Rattle.admission.specs.Seams.{Headed, Linked}
-use Rattle.admission.proofs.Links.{child_behind, linked}
+use Rattle.admission.specs.Seams.{Headed}
 
 -- no rejection applies to a node: it has a type, and the checks by it pass
 pub record Passed (bytes : List ℕ) (node : ℕ) (t : DataType) (r : Record) : Type 0 where

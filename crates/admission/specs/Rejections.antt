@@ -10,7 +10,7 @@ use Rattle.layout.specs.declared.data_type.Table.TheVariants.{Unread, Children, 
 use Rattle.layout.specs.Bytes.{field, negative, wide}
 use Rattle.layout.specs.Records.{nodes, record_at, elements}
 use Rattle.layout.specs.Types.{data_type}
-use Rattle.layout.specs.Nodes.{some_below, table, listed, child_count, child, child_rows, reads_nulls, marked, bitmap_bytes, element}
+use Rattle.layout.specs.Nodes.{some_below, listed, child_count, child, child_rows, reads_nulls, marked, bitmap_bytes, element}
 use Rattle.layout.specs.Views.{view_place, view_length, is_long, view_prefix, view_buffer, view_offset, buffer_place, buffer_length}
 
 -- so many bytes from a place on do not end within an image of this length

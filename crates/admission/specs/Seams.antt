@@ -1,12 +1,12 @@
 -- What one check may count on since earlier ones have passed.
-use Rattle.std.specs.Prelude.{◌≡◌, ℕ, zero, suc, ◌+◌, ◌*◌, ◌<◌, ◌≤◌, max, Bool, true, false, List, length, nat_lt, slice_index}
+use Rattle.std.specs.Prelude.{◌≡◌, ℕ, zero, suc, ◌+◌, ◌*◌, ◌<◌, ◌≤◌, max, true, false, List, length, nat_lt, slice_index}
 use Rattle.layout.specs.declared.bytes.Width.{Width}
 use Rattle.layout.specs.declared.record.Record.{Record}
 use Rattle.layout.specs.declared.data_type.DataType.{DataType}
 use Rattle.layout.specs.declared.data_type.DataType.TheVariants.{Null, Boolean, Number, Float, Utf8, Binary, FixedSizeBinary, View, Dictionary, Struct, List as ListOf, ListView, Map, FixedSizeList, RunEnd}
 use Rattle.layout.specs.Bytes.{wide}
 use Rattle.layout.specs.Nodes.{ChildThere, HoldsBit, child, marked}
-use Rattle.layout.specs.Records.{nodes, elements}
+use Rattle.layout.specs.Records.{nodes}
 use Rattle.layout.specs.Views.{view_place, view_length, is_long, view_buffer, view_offset, buffer_place}
 use Rattle.admission.specs.Rejections.{higher}
 

@@ -2,4 +2,3 @@ pub mod Fold
 pub mod Jobs
 pub mod Machine
 pub mod Seams
-pub mod Column

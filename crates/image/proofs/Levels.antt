@@ -14,7 +14,7 @@ use Rattle.admission.specs.FirstFault.{sound}
 use Rattle.admission.specs.Rejections.{bad_table, higher}
 use Rattle.admission.proofs.Below.{none_at}
 use Rattle.admission.proofs.Links.{child_behind, children_parts}
-use Rattle.admission.proofs.Sound.{Passed, sound_node}
+use Rattle.admission.proofs.Sound.{sound_node}
 use Rattle.image.specs.Levels.{DeepEnough}
 use Rattle.image.specs.Read.{offset, sequence_of, slot_within, span, typed_slot, unmarked}
 use Rattle.image.specs.Slot.{Slot, entries, null, paired, refer, slots, struct}

@@ -1,17 +1,17 @@
 -- An unmarked row of a node that has passed can be read.
-use Rattle.std.proofs.Common.{◌≡◌, ℕ, zero, suc, ◌+◌, ◌*◌, ◌/◌, ◌<◌, ◌≤◌, Bool, true, false, not, ◌&&◌, ◌||◌, eqb, ltb, List, length, Some, sym, refl, ap, ◌∙◌, subst, inl, inr, mul-le-mul_left, mul-suc, arith}
+use Rattle.std.proofs.Common.{◌≡◌, ℕ, zero, suc, ◌+◌, ◌*◌, ◌<◌, ◌≤◌, Bool, true, false, ◌||◌, ltb, List, length, Some, subst, inl, inr, mul-le-mul_left, mul-suc, arith}
 use Rattle.std.proofs.lemmas.Bool.{cases_eq, ltb-false, or_parts}
 use Rattle.layout.specs.declared.bytes.Width.{Width}
 use Rattle.layout.specs.declared.record.Record.{Record}
 use Rattle.layout.specs.declared.data_type.DataType.{DataType}
 use Rattle.layout.specs.declared.data_type.DataType.TheVariants.{Null, Boolean, Number, Float, Utf8, Binary, FixedSizeBinary, View, Dictionary, Struct, List as ListOf, ListView, Map, FixedSizeList, RunEnd}
 use Rattle.layout.specs.Bytes.{negative, wide}
-use Rattle.layout.specs.Nodes.{HoldsBit, bitmap_bytes, element, reads_nulls, table}
+use Rattle.layout.specs.Nodes.{HoldsBit, bitmap_bytes, element, reads_nulls}
 use Rattle.layout.specs.Records.{elements, nodes, record_at}
 use Rattle.layout.specs.Types.{data_type}
 use Rattle.admission.specs.FirstFault.{sound}
-use Rattle.admission.specs.Rejections.{bad_buffer, bad_offsets, bad_values, last_offset, outside}
-use Rattle.admission.specs.Seams.{ElementThere, Headed, Linked}
+use Rattle.admission.specs.Rejections.{bad_offsets, bad_values, last_offset, outside}
+use Rattle.admission.specs.Seams.{ElementThere, Headed}
 use Rattle.admission.proofs.Below.{none_at}
 use Rattle.admission.proofs.Links.{linked}
 use Rattle.admission.proofs.Reached.{bit_held, bitmap_passed, values_passed, view_there}

@@ -1,5 +1,5 @@
 -- Slots, read off the bytes of an image.
-use Rattle.std.specs.Prelude.{ℕ, zero, suc, ◌+◌, ◌-◌, ◌*◌, Bool, true, false, cond, ◌&&◌, List, map, take, drop, Some, None, Option, nat_lt}
+use Rattle.std.specs.Prelude.{ℕ, zero, suc, ◌+◌, ◌-◌, ◌*◌, Bool, cond, ◌&&◌, List, map, take, drop, Some, None, nat_lt}
 use Rattle.std.specs.List.{range_with_len}
 use Rattle.layout.specs.declared.bytes.Width.{Width}
 use Rattle.layout.specs.declared.bytes.Width.TheVariants.{Four}

@@ -7,8 +7,7 @@ use Rattle.layout.specs.declared.data_type.DataType.TheVariants.{Null, Boolean, 
 use Rattle.layout.specs.declared.data_type.Table.{Table}
 use Rattle.layout.specs.declared.data_type.Table.TheVariants.{Unread, Children, Pairs}
 use Rattle.layout.specs.Bytes.{field, bit, wide}
-use Rattle.layout.specs.Records.{record_at, elements}
-use Rattle.layout.specs.Types.{data_type}
+use Rattle.layout.specs.Records.{record_at}
 
 -- some number below n passes a test
 abbrev pub some_below : ℕ → (ℕ → Bool) → Bool

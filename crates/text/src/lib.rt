@@ -1,4 +1,6 @@
 // Numbers and bytes as text has them.
+#![tactic(auto)]
+
 ghost use Rattle.text.specs.Text.{byte_value, bytes_value, digit_value, number_value, numeral_value, with_digit};
 ghost use Rattle.std.specs.Prelude.{◌≡◌, IfOk, vec_items};
 ghost use Rattle.std.specs.Option.{option_map};

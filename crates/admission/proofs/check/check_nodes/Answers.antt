@@ -8,7 +8,7 @@ pub returns-in_err-height : goal.returns-in_err-height
 returns-in_err-height c =
     let node : ℕ = c.loop-node.node - 1 in
     let next : c.loop-node.node ≡ suc node = omega arith in
-    let p = err_from_is_err_and c.from-residual.result c.from-residual.ensures.1 in
+    let p = err_from_is_err_and c.from_residual.result c.from_residual.ensures.1 in
     rw (p.1, p.2)
     (sym (c.loop-node.invariant.0 ∙ stops c.args.bytes.now c.loop-node.node node next (numbered c.in_err-height.field-0.0) c.in_err-height.ensures.fault))
 

@@ -15,7 +15,7 @@ unreachable-requires c =
     let bytes = c.args.self.now.bytes.now in
     let there : c.args.node < nodes bytes = omega arith in
     let typed = sound_node bytes c.args.self.now.sound c.args.node there in
-    let none : None ≡ data_type (record_at bytes c.args.node) = c.in-default.ensures ∙ ap data_type c.read-r.ensures in
+    let none : None ≡ data_type (record_at bytes c.args.node) = c.in_default.ensures ∙ ap data_type c.read-r.ensures in
     let z : ◌≡◌ {A = ℕ} 0 1 = cc (none, typed.1) in
     omega arith
 
