@@ -1,4 +1,6 @@
 // Row hashes of archive tables: looks at an image, and replays commands on one.
+#![tactic(auto)]
+
 mod arguments;
 mod command;
 mod failure;
@@ -11,6 +13,7 @@ mod types;
 use arguments::Invocation;
 use failure::Failure;
 use std::env;
+use std::process::ExitCode;
 
 const HELP: &str = "\
 rowhash: row hashes of archive tables
@@ -47,13 +50,13 @@ fn run(rt: &HostRuntime) -> Result<(), Failure> {
     Ok(())
 }
 
-fn main(rt: HostRuntime) -> Result<(), Failure> {
-    let outcome = run(&rt);
-    if let Err(failure) = &outcome {
-        let _ = eprintln!(rt; "rowhash: {failure}");
-        if let Failure::NoCommand = failure {
-            let _ = rt.eprintln(HELP);
-        }
+fn main(rt: HostRuntime) -> ExitCode {
+    let Err(failure) = run(&rt) else {
+        return ExitCode::SUCCESS;
+    };
+    let _ = eprintln!(rt; "rowhash: {failure}");
+    if let Failure::NoCommand = failure {
+        let _ = rt.eprintln(HELP);
     }
-    outcome
+    ExitCode::FAILURE
 }

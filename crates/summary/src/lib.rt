@@ -1,4 +1,6 @@
 // What can be told of a node at a glance.
+#![tactic(auto)]
+
 ghost use Rattle.std.specs.Prelude.{◌≡◌, ◌<◌, Some};
 ghost use Rattle.image.specs.Values.{node_record};
 ghost use Rattle.layout.specs.Records.{nodes, record_at};
