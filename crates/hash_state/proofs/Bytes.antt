@@ -1,5 +1,5 @@
 -- The low bytes of a number, cut and joined.
-use Rattle.std.proofs.Common.{◌≡◌, ℕ, zero, suc, ◌+◌, ◌-◌, ◌*◌, ◌/◌, ◌%◌, ◌^◌, ◌<◌, ◌≤◌, List, [], ◌∷◌, ◌++◌, length, get_or, drop, sym, refl, ap, ◌∙◌, subst, ap₂, append-nil, arith, drop-cons, pow_mono, pow-add, shr-shr, shr_lt}
+use Rattle.std.proofs.Common.{◌≡◌, ℕ, zero, suc, ◌+◌, ◌-◌, ◌*◌, ◌/◌, ◌%◌, ◌^◌, ◌<◌, ◌≤◌, List, ◌∷◌, ◌++◌, length, get_or, drop, sym, refl, ap, ◌∙◌, subst, ap₂, append-nil, arith, drop-cons, pow_mono, pow-add, shr-shr, shr_lt}
 use lib.Bits.{bit_or, or_mod, or_shifted_r}
 use lib.Arith.{digits_lt}
 use lib.Pow.{field, high, low, mod-mod-pow, mod-pow-add}

@@ -5,7 +5,7 @@ use Rattle.std.specs.Prelude.{◌≡◌, ℕ, ◌+◌, ◌*◌, ◌%◌, ◌^◌
 abbrev pub C : ℕ → ℕ → ℕ
 C l r = ((629 + l) * 37 + r) % 2 ^ 64
 
--- OneToOne in either argument: beside one and the same number, two words give equal numbers only if they are equal.
+-- One-to-one in either argument: beside one and the same number, two words give equal numbers only if they are equal.
 abbrev pub OneToOne : Type 0
 OneToOne =
     (a b c : ℕ) → a < 2 ^ 64 → b < 2 ^ 64 → (C a c ≡ C b c → a ≡ b) × (C c a ≡ C c b → a ≡ b)

@@ -1,4 +1,6 @@
 // Hashers, the states that build them, and the values that tell them what they are.
+#![tactic(auto)]
+
 mod combine;
 mod fnv;
 mod hasher;
@@ -9,4 +11,6 @@ pub use combine::combine_hashes;
 pub use fnv::{Fnv1aHasher, Fnv1aState};
 pub use hasher::{BuildHasher, HashState, Hasher};
 pub use siphash::{SipHashState, SipHasher};
-pub use value::{Binary, Float16, Float32, Float64, HashValue, Nothing, Text, View, hash_entry};
+pub use value::{
+    Binary, Float16, Float32, Float64, HashValue, Nothing, Text, View, hash_entry, hash_later,
+};

@@ -42,6 +42,19 @@ pub trait HashValue {
     }
 }
 
+// The hash of a value in a later column, where the entry stands for the columns before.
+pub fn hash_later<V: HashValue, S: HashState>(value: &V, state: &S, entry: u64) -> u64
+    ensures { result ≡ later V.HashValue.seeding (S.HashState.seeded state.now entry (V.HashValue.seed_writes value.now)) (S.BuildHasher.one state.now (V.HashValue.writes value.now)) entry }
+{
+    if V::seeds() {
+        let seeded = state.seeded_state(entry);
+        let mut hasher = seeded.build_hasher();
+        value.hash_write(&mut hasher);
+        return hasher.finish();
+    }
+    combine_hashes(value.hash_one(state), entry)
+}
+
 // What an entry comes to at a value, in a first column or in a later one, where it stands for the columns before.
 pub fn hash_entry<V: HashValue, S: HashState>(value: &V, state: &S, first: bool, entry: u64) -> u64
     ensures { result ≡ (if first then S.BuildHasher.one state.now (V.HashValue.writes value.now) else later V.HashValue.seeding (S.HashState.seeded state.now entry (V.HashValue.seed_writes value.now)) (S.BuildHasher.one state.now (V.HashValue.writes value.now)) entry) }
@@ -345,12 +358,8 @@ impl HashValue for View<'_> {
         }
     }
 
-    // The same as `hash`, written out: each of the two is then used in one place, and the compiler puts it there.
     fn hash_write<H: Hasher>(&self, hasher: &mut H) {
-        match self {
-            View::Inline(low, high) => hasher.write_pair(*low, *high),
-            View::Long(bytes) => Binary(bytes).hash(hasher),
-        }
+        self.hash(hasher);
     }
 }
 

@@ -1,4 +1,4 @@
-use Rattle.std.proofs.Common.{◌≡◌, ℕ, ◌-◌, ◌%◌, List, length, take, drop, sym, ap, ◌∙◌}
+use Rattle.std.proofs.Common.{ℕ, ◌-◌, ◌%◌, List, length, take, drop, sym, ap, ◌∙◌}
 use Rattle.hash_state.specs.Writes.{joined}
 use Rattle.hash_state.specs.Fnv.{fnv1a}
 use Rattle.hash_state.specs.Hashing.{fnv1a-append, fnv1a_parts}

@@ -13,6 +13,6 @@ returns c =
     let back : length xs - k ≡ c.args.at = omega arith in
     let P : ℕ → Type 0 = λ y. y < 2 ^ (8 * k) in
     record {
-      low = subst P (sym (shifted_is k w few)) (upper_lt 8 k w most c.word_at.type-inv);
+      low = subst P (sym (shifted_is k w few)) (upper_lt 8 k w most c.word_at.type_inv);
       same = ap (le_bytes k) (shifted_is k w few) ∙ last_part xs 8 k w most c.requires.long c.word_at.ensures ∙ ap (λ (i : ℕ). drop i xs) back;
     }

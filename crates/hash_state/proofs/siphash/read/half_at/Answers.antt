@@ -11,5 +11,5 @@ returns c =
     let e : c.from.result ≡ number_at xs i 4 0 = omega (arith, a) in
     record {
       low = omega arith;
-      same = ap (λ (n : ℕ). le_bytes 4 n ++ drop (i + 4) xs) e ∙ read_at xs i 4 0 (λ p. omega (arith, c.type-inv.bytes p)) c.requires ∙ ap (λ (p : ℕ). drop p xs) (add-zero i);
+      same = ap (λ (n : ℕ). le_bytes 4 n ++ drop (i + 4) xs) e ∙ read_at xs i 4 0 (λ p. omega (arith, c.type_inv.bytes p)) c.requires ∙ ap (λ (p : ℕ). drop p xs) (add-zero i);
     }

@@ -1,4 +1,3 @@
-use Rattle.std.proofs.Common.{length}
 use Rattle.hash_state.proofs.Bytes.{halved}
 use Rattle.hash_state.proofs.siphash.read.short.Goals as goal
 

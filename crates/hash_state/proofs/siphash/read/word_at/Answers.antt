@@ -9,4 +9,4 @@ returns c =
     let i = c.args.at in
     let a : get_or xs (i + 0) 0 ≡ get_or xs i 0 = ap (λ (p : ℕ). get_or xs p 0) (add-zero i) in
     let e : c.from_le_bytes.result ≡ number_at xs i 8 0 = omega (arith, a) in
-    ap (λ (n : ℕ). le_bytes 8 n ++ drop (i + 8) xs) e ∙ read_at xs i 8 0 (λ p. omega (arith, c.type-inv.bytes p)) c.requires ∙ ap (λ (p : ℕ). drop p xs) (add-zero i)
+    ap (λ (n : ℕ). le_bytes 8 n ++ drop (i + 8) xs) e ∙ read_at xs i 8 0 (λ p. omega (arith, c.type_inv.bytes p)) c.requires ∙ ap (λ (p : ℕ). drop p xs) (add-zero i)

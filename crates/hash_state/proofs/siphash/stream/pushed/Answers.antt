@@ -5,8 +5,8 @@ use Rattle.hash_state.proofs.Bytes.{held_is, joint_lt, over_lt}
 use Rattle.hash_state.proofs.Streams.{filling, held, mod_8}
 use Rattle.hash_state.proofs.siphash.stream.pushed.Goals as goal
 
-pub invariant-of-result : goal.invariant-of-result
-invariant-of-result c =
+pub invariant_of-result : goal.invariant_of-result
+invariant_of-result c =
     let h = c.args.h in
     let w = c.args.width in
     let v = c.args.v in
@@ -16,22 +16,22 @@ invariant-of-result c =
     let l : k + w < 8 = omega arith in
     let P : ℕ → Type 0 = λ x. x < 2 ^ (8 * (k + w)) in
     let Q : ℕ → Type 0 = λ j. full < 2 ^ (8 * j) in
-    (subst Q i (subst P (sym (held_is k w h.tail v h.low c.requires.low l)) (joint_lt k w h.tail v h.low c.requires.low)), tt)
+    record { low = subst Q i (subst P (sym (held_is k w h.tail v h.low c.requires.low l)) (joint_lt k w h.tail v h.low c.requires.low)) }
 
 pub returns-then-count-width-lt8 : goal.returns-then-count-width-lt8
 returns-then-count-width-lt8 c bs =
     let h = c.args.h in
     held (seen h.state) h.length c.args.width h.tail c.args.v bs h.low c.requires.low (omega arith)
 
-pub invariant-of-result-2 : goal.invariant-of-result-2
-invariant-of-result-2 c =
+pub invariant_of-result-2 : goal.invariant_of-result-2
+invariant_of-result-2 c =
     let h = c.args.h in
     let w = c.args.width in
     let v = c.args.v in
     let k : ℕ = h.length % 8 in
     let i : k + w - 8 ≡ (h.length + w) % 2 ^ 64 % 8 = omega (arith, mod_8 (h.length + w)) in
     let Q : ℕ → Type 0 = λ j. v / 2 ^ (56 - 8 * k) / 2 ^ 8 < 2 ^ (8 * j) in
-    (subst Q i (over_lt k w v c.requires.low (omega arith) (omega arith)), tt)
+    record { low = subst Q i (over_lt k w v c.requires.low (omega arith) (omega arith)) }
 
 pub returns : goal.returns
 returns c bs =

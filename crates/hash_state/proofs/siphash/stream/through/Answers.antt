@@ -1,4 +1,4 @@
-use Rattle.std.proofs.Common.{◌≡◌, ℕ, List, ◌++◌, drop, sym, ap, ◌∙◌, arith}
+use Rattle.std.proofs.Common.{◌≡◌, ℕ, ◌++◌, drop, ap, ◌∙◌, arith}
 use Rattle.hash_state.specs.Stream.{finished, seen}
 use Rattle.hash_state.proofs.Streams.{stepped}
 use Rattle.hash_state.proofs.siphash.stream.through.Goals as goal

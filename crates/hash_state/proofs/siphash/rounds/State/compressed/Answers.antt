@@ -1,4 +1,4 @@
-use Rattle.std.proofs.Common.{ℕ, ap, ◌∙◌}
+use Rattle.std.proofs.Common.{ap, ◌∙◌}
 use lib.Bits.{bit_xor}
 use Rattle.hash_state.specs.Sip.{Sip, compress, sip_round}
 use Rattle.hash_state.proofs.siphash.rounds.State.compressed.Goals as goal

@@ -1,4 +1,4 @@
-use Rattle.std.proofs.Common.{◌≡◌, ℕ, ◌+◌, ◌-◌, ◌%◌, ◌^◌, List, ◌++◌, length, sym, refl, ap, ◌∙◌, arith, take_all}
+use Rattle.std.proofs.Common.{◌≡◌, ℕ, ◌+◌, ◌-◌, ◌%◌, ◌^◌, List, ◌++◌, length, refl, ap, ◌∙◌, arith, take_all}
 use Rattle.hash_state.specs.Stream.{finished, seen, told}
 use Rattle.hash_state.specs.Writes.{joined, le_bytes}
 use Rattle.hash_state.proofs.Streams.{mod_8, through_all}
