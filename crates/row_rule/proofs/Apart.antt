@@ -5,7 +5,7 @@ use Rattle.hash_state.specs.Combine.{C}
 use Rattle.hash_state.specs.Writes.{Write}
 use Rattle.image.specs.Slot.{Slot, Slots, Entries, null, nothing, boolean, number, float, text, binary, view, refer, struct, sequence, entries, done, ◌⨾◌, none, entry}
 use Rattle.row_rule.specs.Laws.{StaysApart, combines}
-use Rattle.row_rule.specs.Number.{combined, elements, is_null, number_of, pairs}
+use Rattle.row_rule.specs.Number.{elements, is_null, number_of, pairs}
 use Rattle.row_rule.proofs.Below.{C_below}
 
 same_rest : (a b s t : ℕ) → a < 2 ^ 64 → b < 2 ^ 64 → a + 2 ^ 64 * s ≡ b + 2 ^ 64 * t → a ≡ b

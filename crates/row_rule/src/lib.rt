@@ -1,4 +1,6 @@
 // The row rule, as definitions, and what holds of it: each function carries one statement.
+#![tactic(auto)]
+
 ghost use Rattle.row_rule.specs.Laws.{StaysApart, StaysBelow};
 ghost use Rattle.row_rule.specs.Worked.{WorkedNumbers};
 
