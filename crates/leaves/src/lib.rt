@@ -1,4 +1,6 @@
 // The hashes of leaf columns, whose rows stand for no other rows.
+#![tactic(auto)]
+
 mod accessor;
 mod array;
 mod bytes;

@@ -2,7 +2,7 @@ use Rattle.std.proofs.Common.{◌≡◌, ℕ, ◌+◌, ◌<◌, ◌≤◌, List,
 use Rattle.row_rule.specs.Number.{number_of}
 use Rattle.leaves.proofs.Steps.{Made, first_told, kept_null, later_told, made_all, made_kept, made_written}
 use Rattle.leaves.proofs.array.hash_array.Goals as goal
-use Rattle.leaves.proofs.array.hash_array.Goals.{in-Some, then-first, else-first, in-default}
+use Rattle.leaves.proofs.array.hash_array.Goals.{in-Some, then-first, else-first, in_default}
 
 pub loop-i-preserved : goal.loop-i-preserved
 loop-i-preserved g c =
@@ -22,10 +22,10 @@ loop-i-preserved g c =
           let made : y ≡ f i e =
           elim w.if-first.branch [
             | then-first w' ↦ w'.entries-is ∙ w'.hash_one.ensures ∙ first_told ONE SEED first e (at i) told w'.if-first.true
-            | else-first w' ↦ w'.entries-is ∙ w'.hash-later.ensures ∙ later_told ONE SEED first e (at i) told w'.if-first.false
+            | else-first w' ↦ w'.entries-is ∙ w'.hash_later.ensures ∙ later_told ONE SEED first e (at i) told w'.if-first.false
           ] in
           ap (Made f (i + 1)) w.entries-is ∙ made_written f es i h y made ∙ c.loop-i.invariant
-      | in-default w ↦
+      | in_default w ↦
           ap (Made f (i + 1)) w.entries-is ∙ made_kept f es i h (kept_null ONE SEED first e (at i) w.in_default.ensures) ∙ c.loop-i.invariant
     ]
 

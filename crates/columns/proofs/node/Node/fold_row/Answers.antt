@@ -39,8 +39,8 @@ fold-elements-requires c =
       small = (omega (arith, few.0, few.1, c.requires.row), (omega arith, refers_not c.data_type.result c.in_default.not-Dictionary c.in_default.not-RunEnd));
     }
 
-pub returns-in-default : goal.returns-in-default
-returns-in-default c =
+pub returns-in_default : goal.returns-in_default
+returns-in_default c =
     let n = c.args.self.now in
     let t = type_of n.bytes.now n.number in
     let v : ℕ → ℕ = λ q. get_or c.args.region.now (q - c.args.from) 0 in
