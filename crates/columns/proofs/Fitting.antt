@@ -1,5 +1,5 @@
 -- A job fits where the work has room for the need of its node.
-use Rattle.std.proofs.Common.{◌≡◌, ℕ, zero, suc, ◌+◌, ◌-◌, ◌<◌, ◌≤◌, max, true, false, cond, eqb, List, length, Some, None, Option, sym, refl, ap, ◌∙◌, subst, inl, inr, arith}
+use Rattle.std.proofs.Common.{◌≡◌, ℕ, zero, suc, ◌+◌, ◌-◌, ◌<◌, ◌≤◌, true, false, eqb, List, Option, ap, subst, inl, inr, arith}
 use Rattle.std.proofs.lemmas.Bool.{cases_eq, cond-true, eq-eqb, true≢false}
 use Rattle.layout.specs.declared.record.Record.{Record}
 use Rattle.layout.specs.declared.data_type.DataType.{DataType}
@@ -11,7 +11,7 @@ use Rattle.admission.specs.Rejections.{higher}
 use Rattle.admission.proofs.Below.{none_at}
 use Rattle.admission.proofs.Links.{child_behind}
 use Rattle.hash_state.specs.Writes.{Write}
-use Rattle.columns.specs.Jobs.{Fine, child_at, kids, most, need_within, plan, reach_from, reach_till, region, type_of}
+use Rattle.columns.specs.Jobs.{child_at, kids, most, need_within, plan, reach_from, reach_till, region, type_of}
 use Rattle.columns.specs.declared.job.Job.{Job}
 use Rattle.columns.specs.Machine.{Fits}
 use Rattle.columns.proofs.Meaning.{Reached}

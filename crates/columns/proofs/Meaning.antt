@@ -1,23 +1,21 @@
 -- A job that is completed leaves the row rule's numbers in its words.
-use Rattle.std.proofs.Common.{◌≡◌, ℕ, zero, suc, ◌+◌, ◌-◌, ◌*◌, ◌<◌, ◌≤◌, Bool, true, false, cond, ◌&&◌, eqb, List, length, get_or, replicate, Some, None, Option, sym, refl, ap, ◌∙◌, subst, inl, inr, arith}
+use Rattle.std.proofs.Common.{◌≡◌, ℕ, zero, suc, ◌+◌, ◌-◌, ◌*◌, ◌<◌, ◌≤◌, Bool, true, false, cond, ◌&&◌, eqb, List, length, get_or, replicate, refl, ap, ◌∙◌, subst, arith}
 use Rattle.std.proofs.lemmas.List.{get_or-replicate, length-replicate}
-use Rattle.std.proofs.lemmas.Bool.{cond-false, cond-true, ne_eqb}
 use Rattle.layout.specs.declared.record.Record.{Record}
 use Rattle.layout.specs.declared.data_type.DataType.{DataType}
 use Rattle.layout.specs.declared.data_type.DataType.TheVariants.{Null, Boolean, Number, Float, Utf8, Binary, FixedSizeBinary, View, Dictionary, Struct, List as ListOf, ListView, Map, FixedSizeList, RunEnd}
-use Rattle.layout.specs.Nodes.{child, element, listed, marked, reads_nulls, table}
+use Rattle.layout.specs.Nodes.{child, element, marked, reads_nulls}
 use Rattle.layout.specs.Records.{nodes, record_at}
-use Rattle.layout.specs.Types.{data_type}
 use Rattle.hash_state.specs.Combine.{C}
 use Rattle.hash_state.specs.Writes.{Write}
-use Rattle.image.specs.Read.{offset, run_of, slot_within, span, typed_slot, unmarked}
+use Rattle.image.specs.Read.{offset, run_of, span, typed_slot, unmarked}
 use Rattle.image.specs.Slot.{Slot, null}
-use Rattle.row_rule.specs.Number.{combined, is_null, number_of}
-use Rattle.columns.specs.Fold.{Uses, combined_all, entry, folded, is_first, is_marked, referred, row_number, through}
+use Rattle.row_rule.specs.Number.{combined, number_of}
+use Rattle.columns.specs.Fold.{Uses, combined_all, entry, folded, is_marked, row_number, through}
 use Rattle.leaves.specs.Rows.{is_leaf}
-use Rattle.columns.specs.Jobs.{Did, Fine, child_at, each, ended, kids, opened, plan, reach_from, region, row_by, splice, standing, type_of}
+use Rattle.columns.specs.Jobs.{Did, Fine, each, ended, opened, reach_from, region, row_by, splice, standing, type_of}
 use Rattle.columns.specs.declared.job.Job.{Job}
-use Rattle.columns.specs.Machine.{Fits, complete, turns}
+use Rattle.columns.specs.Machine.{turns}
 use Rattle.columns.proofs.Splices.{get_or-each, get_or-splice_below, get_or-splice_in, length-each, length-splice}
 
 did_splice : (at n : ℕ) (F : ℕ → ℕ → ℕ) (w ys : List ℕ) → at + n ≤ length w → length ys ≡ n → ((i : ℕ) → i < n → get_or ys i 0 ≡ F i (get_or w (at + i) 0)) → Did at n F w (splice at n w ys)

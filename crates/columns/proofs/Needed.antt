@@ -1,8 +1,7 @@
 -- The need of a node does not depend on how many levels it is told by, and is small.
-use Rattle.std.proofs.Common.{◌≡◌, ℕ, zero, suc, ◌+◌, ◌*◌, ◌<◌, ◌≤◌, max, true, false, List, length, get_or, sym, refl, ap, ◌∙◌, subst, ap₂, arith}
+use Rattle.std.proofs.Common.{◌≡◌, ℕ, zero, suc, ◌+◌, ◌*◌, ◌<◌, ◌≤◌, max, true, false, List, get_or, sym, refl, ap, ◌∙◌, ap₂, arith}
 use Rattle.std.proofs.lemmas.Bool.{true≢false}
-use Rattle.layout.specs.declared.record.Record.{Record}
-use Rattle.layout.specs.Nodes.{child, child_count, child_rows, some_below, table}
+use Rattle.layout.specs.Nodes.{child, child_count, child_rows, table}
 use Rattle.layout.specs.Records.{nodes, record_at}
 use Rattle.layout.specs.Types.{data_type}
 use Rattle.admission.specs.FirstFault.{sound}

@@ -1,11 +1,9 @@
 -- A completed job leaves the row rule's numbers, at every depth.
-use Rattle.std.proofs.Common.{◌≡◌, ℕ, zero, suc, ◌+◌, ◌-◌, ◌*◌, ◌<◌, ◌≤◌, Bool, true, false, cond, eqb, List, length, get_or, Some, None, Option, sym, refl, ap, ◌∙◌, subst, arith}
-use Rattle.std.proofs.lemmas.Bool.{cond-true, eq-eqb}
+use Rattle.std.proofs.Common.{◌≡◌, ℕ, zero, suc, ◌+◌, ◌-◌, ◌<◌, Bool, true, false, cond, eqb, List, length, Some, None, Option, sym, refl, ap, ◌∙◌, arith}
 use Rattle.layout.specs.declared.record.Record.{Record}
 use Rattle.layout.specs.declared.data_type.DataType.{DataType}
 use Rattle.layout.specs.Nodes.{child}
 use Rattle.layout.specs.Records.{nodes, record_at}
-use Rattle.layout.specs.Types.{data_type}
 use Rattle.admission.specs.FirstFault.{sound}
 use Rattle.admission.proofs.Links.{child_behind}
 use Rattle.hash_state.specs.Writes.{Write}
@@ -14,10 +12,9 @@ use Rattle.image.specs.Slot.{Slot, null}
 use Rattle.row_rule.specs.Number.{is_null, number_of}
 use Rattle.columns.specs.Fold.{entry, is_first, is_marked, row_number, through}
 use Rattle.leaves.specs.Rows.{is_leaf}
-use Rattle.columns.specs.Jobs.{Did, Fine, child_at, kids, opened, plan, reach_from, region, row_by, type_of}
+use Rattle.columns.specs.Jobs.{Did, Fine, kids, plan, reach_from, region, row_by, type_of}
 use Rattle.columns.specs.declared.job.Job.{Job}
 use Rattle.columns.specs.Machine.{Fits, complete, turns}
-use Rattle.columns.proofs.Machine.{fits_ok}
 use Rattle.columns.proofs.Meaning.{Reached, did_then, ended_did, leaf_slot, opened_did, through_start, turns_did}
 use Rattle.columns.proofs.Rule.{marked_slot, row_rule, values}
 use Rattle.columns.proofs.Typed.{counted, passed, typed}

@@ -1,5 +1,5 @@
 -- What the walk may count on of a range of a node's rows.
-use Rattle.std.proofs.Common.{◌≡◌, ℕ, zero, suc, ◌+◌, ◌-◌, ◌*◌, ◌^◌, ◌<◌, ◌≤◌, Bool, false, ◌&&◌, ◌||◌, eqb, ltb, List, length, sym, refl, ap, ◌∙◌, subst, mul-le-mul_left, mul-add, arith}
+use Rattle.std.proofs.Common.{◌≡◌, ℕ, zero, suc, ◌+◌, ◌-◌, ◌*◌, ◌<◌, ◌≤◌, false, ◌&&◌, eqb, ltb, List, length, refl, subst, mul-le-mul_left, mul-add, arith}
 use Rattle.std.proofs.lemmas.Bool.{eqb-false, ltb-false, ne_eqb, or_parts}
 use Rattle.layout.specs.declared.bytes.Width.{Width}
 use Rattle.layout.specs.declared.bytes.Width.TheVariants.{Four}
@@ -7,17 +7,17 @@ use Rattle.layout.specs.declared.record.Record.{Record}
 use Rattle.layout.specs.declared.data_type.DataType.{DataType}
 use Rattle.layout.specs.declared.data_type.DataType.TheVariants.{Null, Boolean, Number, Float, Utf8, Binary, FixedSizeBinary, View, Dictionary, Struct, List as ListOf, ListView, Map, FixedSizeList, RunEnd}
 use Rattle.layout.specs.Bytes.{negative, wide}
-use Rattle.layout.specs.Nodes.{ChildThere, child_rows, element, marked, reads_nulls}
+use Rattle.layout.specs.Nodes.{child_rows, element, marked, reads_nulls}
 use Rattle.layout.specs.Records.{elements}
 use Rattle.admission.specs.Rejections.{bad_list_view, bad_offsets, last_offset, outside, too_long}
 use Rattle.admission.specs.Seams.{ElementThere, Linked}
 use Rattle.admission.proofs.Below.{none_at}
 use Rattle.admission.proofs.Reached.{values_passed}
 use Rattle.admission.proofs.Sound.{Passed}
-use Rattle.image.specs.Read.{offset, run_of}
+use Rattle.image.specs.Read.{offset}
 use Rattle.image.proofs.Readable.{one_inside}
 use Rattle.columns.specs.Jobs.{kids, reach_from, reach_till, region}
-use Rattle.columns.specs.Seams.{FoldThere, OffsetsThere, ReachThere, RunsThere}
+use Rattle.columns.specs.Seams.{FoldThere, OffsetsThere, ReachThere}
 use Rattle.columns.proofs.Reaching.{list_view_there, offset_rises, offsets_inside, region_is, run_rises, run_there, uses_reached}
 use Rattle.columns.proofs.Typed.{exactly}
 

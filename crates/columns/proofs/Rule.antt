@@ -1,5 +1,5 @@
 -- The row rule at a slot with children is the fold of its children's numbers.
-use Rattle.std.proofs.Common.{◌≡◌, ℕ, zero, suc, ◌+◌, ◌-◌, ◌*◌, ◌<◌, ◌≤◌, Bool, true, false, cond, ◌&&◌, eqb, List, map, length, Some, None, Option, sym, refl, ap, ◌∙◌, subst, ap₂, add-one, arith}
+use Rattle.std.proofs.Common.{◌≡◌, ℕ, zero, suc, ◌+◌, ◌*◌, ◌<◌, Bool, true, false, cond, ◌&&◌, eqb, List, map, Some, None, Option, sym, refl, ap, ◌∙◌, add-one, arith}
 use Rattle.std.proofs.lemmas.Bool.{cond-false, ne_eqb}
 use Rattle.std.specs.List.{range_with_len}
 use Rattle.layout.specs.declared.bytes.Width.TheVariants.{Four}
@@ -12,7 +12,7 @@ use Rattle.layout.specs.Types.{data_type}
 use Rattle.hash_state.specs.Combine.{C}
 use Rattle.hash_state.specs.Writes.{Write}
 use Rattle.image.specs.Read.{offset, run_of, sequence_of, slot_within, span, typed_slot, unmarked}
-use Rattle.image.specs.Slot.{Slot, Slots, entries, null, paired, refer, sequence, slots, struct}
+use Rattle.image.specs.Slot.{Slot, null, paired, refer, slots}
 use Rattle.row_rule.specs.Number.{combined, elements, fields, is_null, number_of, pairs}
 use Rattle.columns.specs.Fold.{combined_all, entry, folded, is_first, is_marked, referred, row_number, through, typed_mark}
 

@@ -1,11 +1,10 @@
 -- A row of a node with children, by the numbers of its children's rows.
 use Rattle.std.specs.Prelude.{◌≡◌, ℕ, zero, suc, ◌+◌, ◌*◌, ◌<◌, Bool, true, false, cond, ◌&&◌, List, Some, None, Option, ◌==◌}
-use Rattle.layout.specs.declared.bytes.Width.{Width}
 use Rattle.layout.specs.declared.bytes.Width.TheVariants.{Four}
 use Rattle.layout.specs.declared.record.Record.{Record}
 use Rattle.layout.specs.declared.data_type.DataType.{DataType}
 use Rattle.layout.specs.declared.data_type.DataType.TheVariants.{Null, Boolean, Number, Float, Utf8, Binary, FixedSizeBinary, View, Dictionary, Struct, List as ListOf, ListView, Map, FixedSizeList, RunEnd}
-use Rattle.layout.specs.Nodes.{child, child_rows, element, marked, reads_nulls}
+use Rattle.layout.specs.Nodes.{child, element, marked, reads_nulls}
 use Rattle.layout.specs.Records.{record_at}
 use Rattle.layout.specs.Types.{data_type}
 use Rattle.hash_state.specs.Combine.{C}

@@ -1,5 +1,5 @@
 -- The walk over a node's rows as jobs: a range of a node's rows, hashed into words of the work.
-use Rattle.std.specs.Prelude.{◌≡◌, ℕ, zero, suc, ◌+◌, ◌-◌, ◌*◌, ◌/◌, ◌<◌, ◌≤◌, max, Bool, true, false, cond, List, ◌++◌, map, length, take, drop, replicate, Some, None, Option, ◌==◌, slice_index}
+use Rattle.std.specs.Prelude.{◌≡◌, ℕ, zero, suc, ◌+◌, ◌-◌, ◌*◌, ◌<◌, ◌≤◌, max, Bool, false, cond, List, ◌++◌, map, length, take, drop, replicate, Some, None, ◌==◌, slice_index}
 use Rattle.std.specs.List.{range_with_len}
 use Rattle.layout.specs.declared.bytes.Width.TheVariants.{Four}
 use Rattle.layout.specs.declared.record.Record.{Record}

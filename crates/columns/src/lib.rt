@@ -1,4 +1,6 @@
 // The number of every row of every column.
+#![tactic(auto)]
+
 mod fold;
 pub mod job;
 mod needs;

@@ -1,4 +1,4 @@
-use Rattle.std.proofs.Common.{◌≡◌, ℕ, zero, suc, ◌+◌, ◌-◌, ◌<◌, get_or, sym, refl, ap, ◌∙◌, ap₂, arith}
+use Rattle.std.proofs.Common.{◌≡◌, ℕ, suc, ◌+◌, ◌-◌, get_or, sym, ap, ◌∙◌, ap₂, arith}
 use Rattle.hash_state.specs.Combine.{C}
 use Rattle.columns.specs.Fold.{combined_all}
 use Rattle.columns.proofs.fold.combine_all.Goals as goal

@@ -4,5 +4,5 @@ use Rattle.columns.proofs.fold.combine_all.Given as goal
 
 abbrev pub invariant-loop-index : goal.invariant-loop-index
 invariant-loop-index l =
-    combined_all (λ q. get_or l.region (q - l.from) 0) l.initial l.start l.count
+    combined_all (λ q. get_or l.region (q - l.from) 0) l.fn.initial l.start l.count
     ≡ combined_all (λ q. get_or l.region (q - l.from) 0) l.e (l.from + l.index) (l.start + l.count - (l.from + l.index))

@@ -1,11 +1,10 @@
-use Rattle.std.proofs.Common.{◌≡◌, ℕ, ◌+◌, ◌-◌, ◌<◌, ◌≤◌, List, length, get_or, set, sym, ap, ◌∙◌, subst, inl, inr, arith, length-set, get_or-set_other, get_or-set_same}
+use Rattle.std.proofs.Common.{◌≡◌, ℕ, ◌-◌, ◌<◌, ◌≤◌, List, length, get_or, set, sym, ap, ◌∙◌, inl, inr, arith, length-set, get_or-set_other, get_or-set_same}
 use Rattle.std.proofs.lemmas.Bool.{cases_eq}
-use Rattle.layout.specs.declared.record.Record.{Record}
 use Rattle.layout.specs.Nodes.{child, table}
 use Rattle.layout.specs.Records.{nodes, record_at}
 use Rattle.admission.proofs.Links.{child_behind}
 use Rattle.admission.proofs.Sound.{sound_few}
-use Rattle.columns.specs.Jobs.{kids, most, goal as need-of-node, needs_of, type_of}
+use Rattle.columns.specs.Jobs.{kids, most, need as need_of_node, needs_of, type_of}
 use Rattle.columns.proofs.AtNode.{at_node, of_node}
 use Rattle.columns.proofs.Needed.{need_by, need_small}
 use Rattle.columns.proofs.Typed.{passed}
@@ -36,7 +35,7 @@ loop-at-preserved c =
     let at : ℕ = c.loop-at.at - 1 in
     let there : at < nodes B = omega (arith, c.node_count-at.ensures, c.loop-at.auto.at) in
     let p = passed B sound at there in
-    let made : c.need_of.result ≡ need-of-node B at =
+    let made : c.need_of.result ≡ need_of_node B at =
     c.need_of.ensures
     ∙ at_node (λ b k r. most (needs_of b r needs) (kids (type_of b k) r)) n.bytes.now B n.number at n.r n.read c.of-node.ensures.bytes c.of-node.ensures.number
     ∙ need_by B sound at needs there
@@ -46,7 +45,7 @@ loop-at-preserved c =
     let within : at < length needs = omega (arith, c.loop-at.invariant.1, sound_few B sound (omega arith)) in (
       (λ k low high.
           elim (cases_eq k at) [
-            | inl q ↦ ap (λ (x : ℕ). get_or (set needs at c.need_of.result) x 0) q ∙ get_or-set_same needs at c.need_of.result 0 within ∙ made ∙ sym (ap (need-of-node B) q)
+            | inl q ↦ ap (λ (x : ℕ). get_or (set needs at c.need_of.result) x 0) q ∙ get_or-set_same needs at c.need_of.result 0 within ∙ made ∙ sym (ap (need_of_node B) q)
             | inr q ↦ get_or-set_other needs at k c.need_of.result 0 q ∙ c.loop-at.invariant.0 k (omega arith) high
           ]),
       length-set needs at c.need_of.result ∙ c.loop-at.invariant.1,

@@ -1,4 +1,4 @@
-use Rattle.std.proofs.Common.{◌≡◌, ℕ, ◌+◌, ◌<◌, ◌≤◌, max, List, get_or, ap, ◌∙◌, ap₂, add-one, arith}
+use Rattle.std.proofs.Common.{◌≡◌, ℕ, ◌+◌, max, List, get_or, ap, ◌∙◌, ap₂, add-one, arith}
 use Rattle.layout.specs.declared.record.Record.{Record}
 use Rattle.layout.specs.Nodes.{child, child_rows}
 use Rattle.layout.specs.Records.{record_at}
@@ -8,8 +8,8 @@ use Rattle.columns.proofs.Ranges.{short}
 use Rattle.columns.proofs.needs.need_of.Goals as goal
 use Rattle.columns.proofs.needs.need_of.Goals.{then-need-most, else-need-most}
 
-pub overflow-add-need : goal.overflow-add-need
-overflow-add-need c =
+pub overflow_add-need : goal.overflow_add-need
+overflow_add-need c =
     let n = c.args.node.now in
     let below = c.child-child.result in
     let few = short below.r (node_passed below.bytes.now below.sound below.number below.there below.r below.read).short in

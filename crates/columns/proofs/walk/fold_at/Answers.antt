@@ -6,8 +6,8 @@ use Rattle.columns.proofs.Nodes.{node_fold, node_passed, node_same}
 use Rattle.columns.proofs.Ranges.{short}
 use Rattle.columns.proofs.walk.fold_at.Goals as goal
 
-pub overflow-add-job : goal.overflow-add-job
-overflow-add-job c =
+pub overflow_add-job : goal.overflow_add-job
+overflow_add-job c =
     let n = c.args.node.now in
     let few = short n.r (node_passed n.bytes.now n.sound n.number n.there n.r n.read).short in
     omega (arith, few.0, c.requires.range.0, c.requires.row)

@@ -1,4 +1,4 @@
-use Rattle.std.proofs.Common.{◌≡◌, ℕ, ◌+◌, ◌-◌, ◌<◌, List, length, get_or, sym, ap, ◌∙◌, arith}
+use Rattle.std.proofs.Common.{◌≡◌, ℕ, ◌+◌, ◌-◌, List, get_or, ap, ◌∙◌, arith}
 use Rattle.columns.specs.Fold.{row_number}
 use Rattle.columns.specs.Jobs.{reach_from, standing, type_of}
 use Rattle.columns.proofs.Nodes.{node_same}
@@ -22,8 +22,8 @@ loop-i-preserved c =
     node_same bytes n.sound n.number n.there n.r n.read j.lo j.n (j.lo + i) (standing s start c.args.from) (standing w start c.args.from) j.first (get_or s (j.at + i) 0)
     c.requires.0 (omega arith) (omega arith)
     (λ x l. inv.2 (start + (from + x - c.args.from)) (omega arith)) in
-    let number = c.fold-at-number.ensures ∙ same ∙ ap (λ (e : ℕ). row_number t bytes n.r (standing w start c.args.from) j.first e (j.lo + i)) here in
-    written_more j.at _ w s i c.fold-at-number.result (omega (arith, c.loop-i.auto.work, c.requires.1)) inv number
+    let number = c.fold_at-number.ensures ∙ same ∙ ap (λ (e : ℕ). row_number t bytes n.r (standing w start c.args.from) j.first e (j.lo + i)) here in
+    written_more j.at _ w s i c.fold_at-number.result (omega (arith, c.loop-i.auto.work, c.requires.1)) inv number
 
 pub returns : goal.returns
 returns c =

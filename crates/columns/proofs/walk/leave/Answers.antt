@@ -1,4 +1,4 @@
-use Rattle.std.proofs.Common.{◌≡◌, ℕ, ◌+◌, Bool, true, false, cond, List, get_or, sym, ap, ◌∙◌}
+use Rattle.std.proofs.Common.{◌≡◌, ℕ, ◌+◌, Bool, true, false, cond, List, get_or, ap, ◌∙◌}
 use Rattle.image.specs.Read.{typed_slot}
 use Rattle.image.specs.Slot.{null}
 use Rattle.leaves.specs.Rows.{is_leaf}
@@ -36,7 +36,7 @@ returns-else-is_leaf g c =
     c.fold_words.ensures
     ∙ ap (λ (from : ℕ).
     splice j.at j.n w
-    (each (λ i. row_number t n.bytes.now n.r (standing w (j.at + j.n) from) j.first (get_or w (j.at + i) 0) (j.lo + i)) j.n)) c.reach_from.ensures.from
+    (each (λ i. row_number t n.bytes.now n.r (standing w (j.at + j.n) from) j.first (get_or w (j.at + i) 0) (j.lo + i)) j.n)) c.reach-from.ensures.from
     ∙ ap (λ (b : Bool).
     splice j.at j.n w
     (each (λ i. cond b (number_of ONE SEED j.first (get_or w (j.at + i) 0) (typed_slot t n.bytes.now n.r (λ _ _. null) (j.lo + i)))

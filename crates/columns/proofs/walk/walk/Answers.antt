@@ -1,7 +1,6 @@
-use Rattle.std.proofs.Common.{◌≡◌, ℕ, ◌+◌, ◌<◌, ◌≤◌, List, length, refl, ◌∙◌, arith}
+use Rattle.std.proofs.Common.{ℕ, ◌+◌, List, length, refl, ◌∙◌, arith}
 use Rattle.layout.specs.declared.record.Record.{Record}
 use Rattle.columns.specs.Jobs.{child_at, ended, kids, opened, plan, region, type_of}
-use Rattle.columns.specs.declared.job.Job.{Job}
 use Rattle.columns.proofs.AtNode.{at_node}
 use Rattle.columns.proofs.Machine as machine
 use Rattle.columns.proofs.walk.walk.Goals as goal

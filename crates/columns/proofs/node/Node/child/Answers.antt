@@ -1,4 +1,4 @@
-use Rattle.std.proofs.Common.{◌≡◌, ℕ, ◌+◌, ◌*◌, ◌<◌, ◌≤◌, length, sym, refl, ap, ◌∙◌, subst}
+use Rattle.std.proofs.Common.{ℕ, ◌+◌, ◌*◌, ◌<◌, ◌≤◌, length, sym, subst}
 use Rattle.layout.specs.Records.{nodes}
 use Rattle.columns.proofs.Nodes.{node_child}
 use Rattle.columns.proofs.node.Node.child.Goals as goal
@@ -17,4 +17,4 @@ pub invariant_of-result : goal.invariant_of-result
 invariant_of-result c =
     let n = c.args.self.now in
     let there = (node_child n.bytes.now n.sound n.number n.there n.r n.read c.args.index c.requires).1 in
-    (n.sound, (subst (λ (k : ℕ). k < nodes n.bytes.now) (sym c.child-number.ensures) there, (c.read-r.ensures, tt)))
+    record { sound = n.sound; there = subst (λ (k : ℕ). k < nodes n.bytes.now) (sym c.child-number.ensures) there; read = c.read-r.ensures }

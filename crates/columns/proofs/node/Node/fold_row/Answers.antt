@@ -28,8 +28,8 @@ refers_not Map d r = refl
 refers_not (FixedSizeList p) d r = refl
 refers_not (RunEnd w) d r = absurd (r w refl)
 
-pub fold-elements-requires : goal.fold-elements-requires
-fold-elements-requires c =
+pub fold_elements-requires : goal.fold_elements-requires
+fold_elements-requires c =
     let n = c.args.self.now in
     let few = short n.r (node_passed n.bytes.now n.sound n.number n.there n.r n.read).short in
     record {
@@ -44,6 +44,6 @@ returns-in_default c =
     let n = c.args.self.now in
     let t = type_of n.bytes.now n.number in
     let v : ℕ → ℕ = λ q. get_or c.args.region.now (q - c.args.from) 0 in
-    c.fold-elements.ensures c.args.first
+    c.fold_elements.ensures c.args.first
     ∙ ap (λ (x : DataType). folded x n.bytes.now n.r v c.args.first c.args.e (n.r.start + c.args.row)) c.data_type.ensures
     ∙ sym (cond-false (reads_nulls t && marked n.bytes.now n.r c.args.row) c.args.e _ (sym c.if-is_marked.ensures))
