@@ -1,4 +1,5 @@
 pub mod AtNode
+pub mod Children
 pub mod Fitting
 pub mod Machine
 pub mod Meaning
@@ -9,4 +10,5 @@ pub mod Ranges
 pub mod Reaching
 pub mod Rule
 pub mod Splices
+pub mod There
 pub mod Typed

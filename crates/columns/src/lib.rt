@@ -1,6 +1,7 @@
 // The number of every row of every column.
 #![tactic(auto)]
 
+mod column;
 mod fold;
 pub mod job;
 mod needs;
@@ -9,3 +10,6 @@ mod reach;
 mod rows;
 mod walk;
 mod words;
+
+pub use column::hash_column;
+pub use needs::node_need;

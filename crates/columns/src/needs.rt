@@ -1,5 +1,6 @@
 // How many words of work a node needs.
 ghost use Rattle.std.specs.Prelude.{◌≡◌, ℕ, ◌+◌, ◌<◌, ◌≤◌, slice_index};
+ghost use Rattle.columns.specs.Column.{node_need};
 ghost use Rattle.columns.specs.Jobs.{kids, most, need, needs_of, type_of};
 ghost use Rattle.layout.specs.Nodes.{child, child_rows};
 ghost use Rattle.layout.specs.Records.{nodes};
@@ -35,4 +36,14 @@ pub(crate) fn need(image: &Image<'_>, number: u32) -> u32
         needs[at as usize] = need_of(&node, &needs);
     }
     needs[number as usize]
+}
+
+// How many words of work a node needs, or none where there is no such node.
+pub fn node_need(image: &Image<'_>, node: u64) -> Option<u32>
+    ensures { result ≡ node_need image.now.bytes.now node }
+{
+    if node >= u64::from(image.node_count()) {
+        return None;
+    }
+    Some(need(image, node as u32))
 }

@@ -72,7 +72,7 @@ fn hash_words<S: HashState>(node: &Node<'_>, job: Job, state: &S, work: &mut [u6
     );
 }
 
-fn is_leaf(t: DataType) -> bool
+pub(crate) fn is_leaf(t: DataType) -> bool
     ensures { result ≡ is_leaf t }
 {
     !matches!(
@@ -123,7 +123,7 @@ fn enter(node: &Node<'_>, job: Job, stage: u32, work: &mut [u64]) -> Job
 }
 
 // Does a job and all below it: the frame in hand, and 16 that wait.
-fn walk<S: HashState>(image: &Image<'_>, root: Job, state: &S, work: &mut [u64])
+pub(crate) fn walk<S: HashState>(image: &Image<'_>, root: Job, state: &S, work: &mut [u64])
     requires { Fits (plan (S.BuildHasher.one state.now) (S.HashState.seeded state.now) image.now.bytes.now (length work.old)) 16 root }
     ensures { work.new ≡ complete (plan (S.BuildHasher.one state.now) (S.HashState.seeded state.now) image.now.bytes.now (length work.old)) 16 root 0 work.old }
 {

@@ -1,0 +1,45 @@
+use Rattle.std.proofs.Common.{◌≡◌, ℕ, List, Some, None, Option, sym, refl, ap, ◌∙◌, subst, arith, Bor}
+use Rattle.layout.specs.declared.data_type.DataType.{DataType}
+use Rattle.image.specs.Read.{slot_within, typed_slot}
+use Rattle.row_rule.specs.Number.{number_of}
+use Rattle.leaves.specs.Rows.{LeafRow, RowsFor, by_place, is_leaf, row_of}
+use Rattle.columns.specs.Jobs.{type_of}
+use Rattle.columns.specs.Column.{met_row, met_rows}
+use Rattle.columns.proofs.Children.{by_place_same, node_slot}
+use Rattle.columns.proofs.Nodes.{node_leaf, node_typed}
+use Rattle.columns.proofs.column.hash_leaves.Goals as goal
+
+-- the row of a word, as the leaf loop has it
+row_met : (list : Option (Bor (List ℕ))) (j : ℕ) → row_of 0 list j ≡ met_row list j
+row_met None j = omega arith
+row_met (Some list) j = refl
+
+rows_for : (list : Option (Bor (List ℕ))) (rows n : ℕ) → n ≡ met_rows rows list → RowsFor list n
+rows_for None rows n e = tt
+rows_for (Some list) rows n e = sym e
+
+pub hash_leaf-requires : goal.hash_leaf-requires
+hash_leaf-requires g c =
+    let n = c.args.node.now in
+    let list = c.args.list in
+    record {
+      leaf = ap is_leaf c.data_type.ensures ∙ c.requires.leaf;
+      typed = ap (λ (t : DataType). Some t) c.data_type.ensures ∙ node_typed n.bytes.now n.sound n.number n.there n.r n.read;
+      readable = λ j l.
+          subst (λ (t : DataType). LeafRow n.bytes.now t n.r (row_of 0 list j)) (sym c.data_type.ensures)
+          (subst (LeafRow n.bytes.now (type_of n.bytes.now n.number) n.r) (sym (row_met list j)) (node_leaf n.bytes.now n.sound n.number n.there n.r n.read (met_row list j) (c.requires.rows.1 j (omega (arith, c.requires.rows.0)))));
+      listed = rows_for list n.r.rows _ c.requires.rows.0;
+      fits = omega (arith, c.requires.rows.2);
+    }
+
+pub returns : goal.returns
+returns g c =
+    let n = c.args.node.now in
+    let down = slot_within 15 n.bytes.now in
+    c.hash_leaf.ensures down
+    ∙ ap (λ (t : DataType).
+    by_place (λ j e. number_of (g.S.BuildHasher.one c.args.state.now) (g.S.HashState.seeded c.args.state.now) c.args.first e (typed_slot t n.bytes.now n.r down (row_of 0 c.args.list j))) 0 c.args.entries.now) c.data_type.ensures
+    ∙ by_place_same _ _ c.args.entries.now 0
+    (λ j e l.
+    ap (number_of (g.S.BuildHasher.one c.args.state.now) (g.S.HashState.seeded c.args.state.now) c.args.first e)
+    (ap (typed_slot (type_of n.bytes.now n.number) n.bytes.now n.r down) (row_met c.args.list j) ∙ node_slot n (met_row c.args.list j)))
