@@ -2,6 +2,8 @@
 ghost use Rattle.std.specs.Prelude.{◌≡◌, ◌+◌, ◌*◌, ◌/◌, ◌<◌, ◌≤◌, length};
 ghost use Rattle.layout.specs.Bytes.{bit, field, negative, wide};
 ghost use Rattle.layout.specs.Nodes.{element};
+ghost use Rattle.layout.specs.declared.bytes.Width.{Width};
+ghost use Rattle.layout.specs.declared.bytes.Width.TheVariants.{One, Two, Four, Eight};
 
 // How many bytes a number, an offset, a key or a run end has.
 #[derive(Clone, Copy)]
@@ -98,4 +100,46 @@ pub fn element_at(width: Width, bytes: &[u8], place: usize, index: usize) -> u64
     ensures { result ≡ element width bytes.now place index }
 {
     word_at(width, bytes, place + width.bytes() as usize * index)
+}
+
+// Numbers of one width. Code that is generic over them does not ask for the width again at each element.
+pub trait Native {
+    ghost width: { Width };
+
+    // An element of a buffer of such numbers.
+    fn at(bytes: &[u8], place: usize, index: usize) -> u64
+        requires { place + wide width * index + wide width ≤ length bytes.now }
+        ensures { result ≡ element width bytes.now place index };
+}
+
+impl Native for u8 {
+    ghost width = { One };
+
+    fn at(bytes: &[u8], place: usize, index: usize) -> u64 {
+        u64::from(bytes[place + index])
+    }
+}
+
+impl Native for u16 {
+    ghost width = { Two };
+
+    fn at(bytes: &[u8], place: usize, index: usize) -> u64 {
+        u64::from(u16_at(bytes, place + 2 * index))
+    }
+}
+
+impl Native for u32 {
+    ghost width = { Four };
+
+    fn at(bytes: &[u8], place: usize, index: usize) -> u64 {
+        u64::from(u32_at(bytes, place + 4 * index))
+    }
+}
+
+impl Native for u64 {
+    ghost width = { Eight };
+
+    fn at(bytes: &[u8], place: usize, index: usize) -> u64 {
+        u64_at(bytes, place + 8 * index)
+    }
 }

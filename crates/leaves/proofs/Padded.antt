@@ -1,5 +1,5 @@
 -- The 16 bytes of a short view are its length and its bytes, with zeros behind them.
-use Rattle.std.proofs.Common.{◌≡◌, ℕ, zero, suc, ◌+◌, ◌-◌, ◌*◌, ◌^◌, ◌<◌, ◌≤◌, Bool, true, false, cond, not, ◌&&◌, eqb, leb, List, [], ◌∷◌, length, get_or, take, drop, sym, refl, ap, ◌∙◌, subst, ap₂, inl, inr, arith}
+use Rattle.std.proofs.Common.{◌≡◌, ℕ, zero, suc, ◌+◌, ◌-◌, ◌*◌, ◌/◌, ◌%◌, ◌^◌, ◌<◌, ◌≤◌, Bool, true, false, cond, not, ◌&&◌, eqb, leb, List, [], ◌∷◌, length, get_or, take, drop, sym, refl, ap, ◌∙◌, subst, ap₂, inl, inr, arith}
 use Rattle.std.proofs.lemmas.List.{at_drop_more, drop_all, drop-drop, drop-take, length-drop, length-take-le, take_all, take-take}
 use Rattle.std.proofs.lemmas.Bool.{cases_lt, cond-false, cond-true, eqb-true, le-leb, le-ltb, lt-leb, lt-ltb, not-false}
 use Rattle.hash_state.specs.Values as tell
@@ -13,6 +13,17 @@ use Rattle.admission.specs.Seams.{ViewThere}
 use Rattle.admission.proofs.Below.{none_at}
 use Rattle.image.specs.Read.{part, view_bytes_place}
 use Rattle.row_rule.specs.Number.{le_number, view_writes}
+
+-- a word of eight bytes, by its halves
+module _ (bytes : List ℕ) (small : (i : ℕ) → get_or bytes i 0 < 256) (p word : ℕ) (read : word ≡ field 8 bytes p) where
+  pub low_half : word % 4294967296 ≡ field 4 bytes p
+  low_half = omega (arith, small p, small (p + 1), small (p + 1 + 1), small (p + 1 + 1 + 1))
+
+  pub high_half : word / 4294967296 ≡ field 4 bytes (p + 4)
+  high_half =
+      let q : p + 1 + 1 + 1 + 1 ≡ p + 4 = omega arith in
+      let h : field 4 bytes (p + 1 + 1 + 1 + 1) ≡ field 4 bytes (p + 4) = ap (field 4 bytes) q in
+      omega (arith, small p, small (p + 1), small (p + 1 + 1), small (p + 1 + 1 + 1))
 
 -- n bytes and zeros behind them, up to m, are one field of m bytes
 spelled : (bytes : List ℕ) (m n p : ℕ) → n ≤ m → p + m ≤ length bytes → ((k : ℕ) → n ≤ k → k < m → get_or bytes (p + k) 0 ≡ 0) → le_number (take n (drop p bytes)) ≡ field m bytes p

@@ -1,5 +1,5 @@
 -- One turn of the loop that maps entries in place, by their places.
-use Rattle.std.proofs.Common.{◌≡◌, ℕ, ◌+◌, ◌<◌, ◌≤◌, Bool, true, false, List, [], ◌∷◌, ◌++◌, length, get_or, take, drop, set, sym, ap, ◌∙◌, append_assoc, append-nil, arith}
+use Rattle.std.proofs.Common.{◌≡◌, ℕ, ◌+◌, ◌<◌, ◌≤◌, Bool, true, false, cond, List, [], ◌∷◌, ◌++◌, length, get_or, take, drop, set, sym, ap, ◌∙◌, append_assoc, append-nil, arith}
 use Rattle.std.proofs.lemmas.List.{take_more, take_more_set, drop-set-lt, at_drop_more, at_drop_all, take_all}
 use Rattle.hash_state.specs.Combine.{later}
 use Rattle.hash_state.specs.Writes.{Write}
@@ -37,8 +37,9 @@ module _ (ONE : List Write → ℕ) (SEED : ℕ → List Write → ℕ) (first :
   kept_null q = sym (ap (number_of ONE SEED first e) q)
 
   module _ {seeding : Bool} {writes seeds : List Write} (told : Tells seeding writes seeds s) where
-    pub first_told : first ≡ true → ONE writes ≡ number_of ONE SEED first e s
-    first_told p = sym (ap (λ (b : Bool). number_of ONE SEED b e s) p ∙ told.when_first ONE SEED e)
-
-    pub later_told : first ≡ false → later seeding (SEED e seeds) (ONE writes) e ≡ number_of ONE SEED first e s
-    later_told p = sym (ap (λ (b : Bool). number_of ONE SEED b e s) p ∙ told.when_later ONE SEED e)
+    pub entry_told : cond first (ONE writes) (later seeding (SEED e seeds) (ONE writes) e) ≡ number_of ONE SEED first e s
+    entry_told = by_first first
+      where
+        by_first : (b : Bool) → cond b (ONE writes) (later seeding (SEED e seeds) (ONE writes) e) ≡ number_of ONE SEED b e s
+        by_first true = sym (told.when_first ONE SEED e)
+        by_first false = sym (told.when_later ONE SEED e)

@@ -1,5 +1,5 @@
 -- The rows of a leaf, and the words that they make.
-use Rattle.std.specs.Prelude.{◌≡◌, ℕ, ◌+◌, Bool, true, false, List, [], ◌∷◌, length, Some, None, Option, slice_index}
+use Rattle.std.specs.Prelude.{◌≡◌, ℕ, ◌+◌, ◌^◌, ◌<◌, Bool, true, false, List, [], ◌∷◌, length, Some, None, Option, slice_index}
 use Rattle.std.specs.Borrow.{Bor}
 use Rattle.layout.specs.declared.bytes.Width.{Width}
 use Rattle.layout.specs.declared.record.Record.{Record}
@@ -38,6 +38,11 @@ is_leaf (RunEnd w) = false
 abbrev pub row_of : ℕ → Option (Bor (List ℕ)) → ℕ → ℕ
 row_of lo None j = lo + j
 row_of lo (Some list) j = slice_index list.now j
+
+-- there is such a row to meet
+abbrev pub RowThere : ℕ → Option (Bor (List ℕ)) → ℕ → Type 0
+RowThere lo None j = lo + j < 2 ^ 32
+RowThere lo (Some list) j = j < length list.now
 
 -- a list, if there is one, has a row for each of n words
 abbrev pub RowsFor : Option (Bor (List ℕ)) → ℕ → Type 0

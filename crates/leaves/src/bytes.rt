@@ -9,62 +9,65 @@ ghost use Rattle.leaves.specs.Tells.{leaf_slot};
 use crate::accessor::Accessor;
 use crate::column::Column;
 use hash_state::{Binary, Text};
-use layout::bytes::{Width, element_at};
+use layout::bytes::Native;
+use std::marker::PhantomData;
 
 impl<'a> Column<'a> {
     // The bytes between a row's offset and the next.
-    fn span(&self, width: Width, row: u32) -> &'a [u8]
-        requires { SpanThere width self.now.bytes.now self.now.record (self.now.record.start + row) }
-        ensures { result.now ≡ part self.now.bytes.now (self.now.record.b + offset width self.now.bytes.now self.now.record (self.now.record.start + row)) (span width self.now.bytes.now self.now.record (self.now.record.start + row)) }
+    fn span<O: Native>(&self, row: u32) -> &'a [u8]
+        requires { SpanThere O.Native.width self.now.bytes.now self.now.record (self.now.record.start + row) }
+        ensures { result.now ≡ part self.now.bytes.now (self.now.record.b + offset O.Native.width self.now.bytes.now self.now.record (self.now.record.start + row)) (span O.Native.width self.now.bytes.now self.now.record (self.now.record.start + row)) }
     {
         let bytes = self.bytes;
         let (a, b) = (self.record.a as usize, self.record.b as usize);
         let at = self.element(row);
-        let from = b + element_at(width, bytes, a, at) as usize;
-        let to = b + element_at(width, bytes, a, at + 1) as usize;
+        let from = b + O::at(bytes, a, at) as usize;
+        let to = b + O::at(bytes, a, at + 1) as usize;
         &bytes[from..to]
     }
 }
 
+// Texts, by offsets of one width.
 #[derive(Drop)]
-pub(crate) struct Texts<'a> {
+pub(crate) struct Texts<'a, O> {
     pub column: Column<'a>,
-    pub width: Width,
+    pub offsets: PhantomData<O>,
 }
 
-impl<'a> Accessor for Texts<'a> {
+impl<'a, O: Native> Accessor for Texts<'a, O> {
     type Item = Text<'a>;
 
-    ghost ready = { λ s row. LeafRow s.column.bytes.now (Utf8 s.width) s.column.record row };
+    ghost ready = { λ s row. LeafRow s.column.bytes.now (Utf8 O.Native.width) s.column.record row };
 
-    ghost slot_of = { λ s row. leaf_slot (Utf8 s.width) s.column.bytes.now s.column.record row };
+    ghost slot_of = { λ s row. leaf_slot (Utf8 O.Native.width) s.column.bytes.now s.column.record row };
 
     fn value(&self, row: u32) -> Option<Text<'a>> {
         if self.column.is_null(row) {
             return None;
         }
-        Some(Text(self.column.span(self.width, row)))
+        Some(Text(self.column.span::<O>(row)))
     }
 }
 
+// Byte strings, by offsets of one width.
 #[derive(Drop)]
-pub(crate) struct Binaries<'a> {
+pub(crate) struct Binaries<'a, O> {
     pub column: Column<'a>,
-    pub width: Width,
+    pub offsets: PhantomData<O>,
 }
 
-impl<'a> Accessor for Binaries<'a> {
+impl<'a, O: Native> Accessor for Binaries<'a, O> {
     type Item = Binary<'a>;
 
-    ghost ready = { λ s row. LeafRow s.column.bytes.now (binary_type s.width) s.column.record row };
+    ghost ready = { λ s row. LeafRow s.column.bytes.now (binary_type O.Native.width) s.column.record row };
 
-    ghost slot_of = { λ s row. leaf_slot (binary_type s.width) s.column.bytes.now s.column.record row };
+    ghost slot_of = { λ s row. leaf_slot (binary_type O.Native.width) s.column.bytes.now s.column.record row };
 
     fn value(&self, row: u32) -> Option<Binary<'a>> {
         if self.column.is_null(row) {
             return None;
         }
-        Some(Binary(self.column.span(self.width, row)))
+        Some(Binary(self.column.span::<O>(row)))
     }
 }
 

@@ -9,7 +9,7 @@ ghost use Rattle.leaves.specs.Tells.{Tells, value_slot};
 ghost use Rattle.row_rule.specs.Number.{number_of};
 
 use crate::accessor::Accessor;
-use crate::array::hash_rows;
+use crate::array::hash_array;
 use crate::column::Column;
 use hash_state::{BuildHasher, Float16, Float32, Float64, HashState, HashValue};
 use layout::bytes::{u16_at, u32_at, u64_at};
@@ -168,5 +168,5 @@ pub(crate) fn hash_primitives<T: Primitive + Drop, S: HashState>(
         column,
         native: PhantomData,
     };
-    hash_rows(&values, lo, rows, state, entries, first);
+    hash_array(values, lo, rows, state, entries, first);
 }

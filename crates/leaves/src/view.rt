@@ -1,9 +1,10 @@
 // Columns of views.
-ghost use Rattle.std.specs.Prelude.{◌≡◌, ◌+◌, false};
+ghost use Rattle.std.specs.Prelude.{◌≡◌, ◌+◌, ◌≤◌, false, length};
 ghost use Rattle.admission.specs.Rejections.{bad_view};
 ghost use Rattle.admission.specs.Seams.{ViewThere};
 ghost use Rattle.hash_state.specs.View.{view as told};
 ghost use Rattle.image.specs.Read.{part, view_bytes_place};
+ghost use Rattle.layout.specs.Bytes.{field};
 ghost use Rattle.layout.specs.Nodes.{marked};
 ghost use Rattle.layout.specs.Views.{view_length, view_place};
 ghost use Rattle.layout.specs.declared.data_type.DataType.TheVariants.{View as view_type};
@@ -16,6 +17,29 @@ use crate::column::Column;
 use hash_state::View;
 use layout::bytes::{u32_at, u64_at};
 
+// Eight bytes as a word, and its halves of four bytes each.
+#[derive(Clone, Copy)]
+struct Word {
+    whole: u64,
+    low: u32,
+    high: u32,
+}
+
+// One load, and not one for each: the compiler then knows of a short view's length that it is short.
+fn word_at(bytes: &[u8], place: usize) -> Word
+    requires { place + 8 ≤ length bytes.now }
+    ensures whole { result.whole ≡ field 8 bytes.now place }
+    ensures low { result.low ≡ field 4 bytes.now place }
+    ensures high { result.high ≡ field 4 bytes.now (place + 4) }
+{
+    let whole = u64_at(bytes, place);
+    Word {
+        whole,
+        low: (whole % 0x1_0000_0000) as u32,
+        high: (whole / 0x1_0000_0000) as u32,
+    }
+}
+
 impl<'a> Column<'a> {
     // An unmarked view. Up to 12 bytes stand in the view itself, with zeros behind them.
     fn view(&self, row: u32) -> View<'a>
@@ -26,12 +50,14 @@ impl<'a> Column<'a> {
     {
         let bytes = self.bytes;
         let view = self.record.a as usize + 16 * self.element(row);
-        let size = u32_at(bytes, view) as usize;
+        let begin = word_at(bytes, view);
+        let end = word_at(bytes, view + 8);
+        let size = begin.low as usize;
         if size <= 12 {
-            return View::Inline(u64_at(bytes, view), u64_at(bytes, view + 8));
+            return View::Inline(begin.whole, end.whole);
         }
-        let pair = self.record.tab as usize + 8 * u32_at(bytes, view + 8) as usize;
-        let place = u32_at(bytes, pair) as usize + u32_at(bytes, view + 12) as usize;
+        let pair = self.record.tab as usize + 8 * end.low as usize;
+        let place = u32_at(bytes, pair) as usize + end.high as usize;
         View::Long(&bytes[place..place + size])
     }
 }

@@ -1,4 +1,5 @@
-use Rattle.std.proofs.Common.{ℕ, ◌+◌, ◌*◌, ap}
+use Rattle.std.proofs.Common.{◌≡◌, ℕ, ◌+◌, ◌*◌, ap, ◌∙◌, arith}
+use Rattle.layout.specs.Bytes.{field}
 use Rattle.leaves.proofs.Padded.{inline_told, long_told}
 use Rattle.leaves.proofs.column.Column.view.Goals as goal
 
@@ -7,13 +8,15 @@ returns-then-size-le12 c =
     let r = c.args.self.now.record in
     let place : ℕ = r.a + 16 * c.element.result in
     inline_told c.args.self.now.bytes.now r c.args.row c.requires.there c.requires.unmarked c.requires.padded
-    place c.u32_at-size.result (ap (λ (k : ℕ). r.a + 16 * k) c.element.ensures) c.u32_at-size.ensures
-    c.u64_at.result c.u64_at-then-size-le12.result c.if-size-le12.true c.u64_at.ensures c.u64_at-then-size-le12.ensures
+    place c.word_at-begin.result.low (ap (λ (k : ℕ). r.a + 16 * k) c.element.ensures) c.word_at-begin.ensures.low
+    c.word_at-begin.result.whole c.word_at-end.result.whole c.if-size-le12.true c.word_at-begin.ensures.whole c.word_at-end.ensures.whole
 
 pub returns : goal.returns
 returns c =
     let r = c.args.self.now.record in
+    let bytes = c.args.self.now.bytes.now in
     let place : ℕ = r.a + 16 * c.element.result in
-    long_told c.args.self.now.bytes.now r c.args.row c.requires.there c.requires.unmarked c.requires.padded
-    place c.u32_at-size.result (ap (λ (k : ℕ). r.a + 16 * k) c.element.ensures) c.u32_at-size.ensures
-    c.u32_at.result c.u32_at-2.result c.u32_at-3.result c.if-size-le12.false c.u32_at.ensures c.u32_at-2.ensures c.u32_at-3.ensures
+    let q : place + 8 + 4 ≡ place + 12 = omega arith in
+    long_told bytes r c.args.row c.requires.there c.requires.unmarked c.requires.padded
+    place c.word_at-begin.result.low (ap (λ (k : ℕ). r.a + 16 * k) c.element.ensures) c.word_at-begin.ensures.low
+    c.word_at-end.result.low c.u32_at.result c.word_at-end.result.high c.if-size-le12.false c.word_at-end.ensures.low c.u32_at.ensures (c.word_at-end.ensures.high ∙ ap (field 4 bytes) q)
