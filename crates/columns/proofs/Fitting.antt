@@ -30,13 +30,13 @@ module _ (bytes : List ℕ) (is-sound : sound bytes ≡ true) where
   pub counts : (node : ℕ) → node < nodes bytes → child_count (data_type (record_at bytes node)) (record_at bytes node) ≡ kids (type_of bytes node) (record_at bytes node)
   counts node there = ap (λ (o : Option DataType). child_count o (record_at bytes node)) (typed bytes is-sound node there)
 
-  module _ (ONE : List Write → ℕ) (SEED : ℕ → List Write → ℕ) (len : ℕ) where
-    need_at : (f node s : ℕ) → node < nodes bytes → s < kids (type_of bytes node) (record_at bytes node)
-        → child_rows bytes (record_at bytes node) s + need_within f bytes (child bytes (record_at bytes node) s) ≤ need_within (suc f) bytes node
-    need_at f node s there h =
-        most_at (λ k. child_rows bytes (record_at bytes node) k + need_within f bytes (child bytes (record_at bytes node) k)) (child_count (data_type (record_at bytes node)) (record_at bytes node)) s
-        (omega (arith, counts node there))
+  pub need_at : (f node s : ℕ) → node < nodes bytes → s < kids (type_of bytes node) (record_at bytes node)
+      → child_rows bytes (record_at bytes node) s + need_within f bytes (child bytes (record_at bytes node) s) ≤ need_within (suc f) bytes node
+  need_at f node s there h =
+      most_at (λ k. child_rows bytes (record_at bytes node) k + need_within f bytes (child bytes (record_at bytes node) k)) (child_count (data_type (record_at bytes node)) (record_at bytes node)) s
+      (omega (arith, counts node there))
 
+  module _ (ONE : List Write → ℕ) (SEED : ℕ → List Write → ℕ) (len : ℕ) where
     pub fits : (f : ℕ) (j : Job) → higher bytes f j.node ≡ false → j.node < nodes bytes → j.lo + j.n ≤ (record_at bytes j.node).rows
         → j.at + j.n + need_within f bytes j.node ≤ len → Fits (plan ONE SEED bytes len) f j
     unfolding Fits

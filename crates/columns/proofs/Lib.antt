@@ -1,4 +1,4 @@
-pub mod AtNode
+pub mod Children
 pub mod Fitting
 pub mod Machine
 pub mod Meaning
@@ -7,6 +7,8 @@ pub mod Nodes
 pub mod Numbers
 pub mod Ranges
 pub mod Reaching
+pub mod References
 pub mod Rule
 pub mod Splices
+pub mod There
 pub mod Typed

@@ -1,6 +1,8 @@
 -- The need of a node does not depend on how many levels it is told by, and is small.
-use Rattle.std.proofs.Common.{◌≡◌, ℕ, zero, suc, ◌+◌, ◌*◌, ◌<◌, ◌≤◌, max, true, false, List, get_or, sym, refl, ap, ◌∙◌, ap₂, arith}
-use Rattle.std.proofs.lemmas.Bool.{true≢false}
+use Rattle.std.proofs.Common.{◌≡◌, ℕ, zero, suc, ◌+◌, ◌-◌, ◌*◌, ◌<◌, ◌≤◌, max, true, false, eqb, List, get_or, sym, refl, ap, ◌∙◌, ap₂, inl, inr, arith}
+use Rattle.std.proofs.lemmas.Bool.{cases_eq, cond-true, eq-eqb, true≢false}
+use Rattle.layout.specs.declared.data_type.DataType.{DataType}
+use Rattle.layout.specs.declared.record.Record.{Record}
 use Rattle.layout.specs.Nodes.{child, child_count, child_rows, table}
 use Rattle.layout.specs.Records.{nodes, record_at}
 use Rattle.layout.specs.Types.{data_type}
@@ -8,9 +10,10 @@ use Rattle.admission.specs.FirstFault.{sound}
 use Rattle.admission.specs.Rejections.{higher}
 use Rattle.admission.proofs.Below.{none_at}
 use Rattle.admission.proofs.Links.{child_behind}
-use Rattle.columns.specs.Jobs.{kids, most, need, need_within, needs_of, type_of}
-use Rattle.columns.proofs.Fitting.{counts}
+use Rattle.columns.specs.Jobs.{kids, most, need, need_within, needs_of, reach_from, reach_till, region, type_of}
+use Rattle.columns.proofs.Fitting.{counts, need_at}
 use Rattle.columns.proofs.Ranges.{short}
+use Rattle.columns.proofs.Reaching.{reach_inside}
 use Rattle.columns.proofs.Typed.{passed}
 
 most_same : (f g : ℕ → ℕ) (n : ℕ) → ((k : ℕ) → k < n → f k ≡ g k) → most f n ≡ most g n
@@ -70,3 +73,25 @@ module _ (bytes : List ℕ) (is-sound : sound bytes ≡ true) where
       let down = child_lower 15 node k low there l in
       ap (λ (x : ℕ). child_rows bytes (record_at bytes node) k + x)
       (each k (omega (arith, few)) ∙ need_same 15 16 15 (child bytes (record_at bytes node) k) down.1 down.0 (omega arith) (omega arith)))
+
+  -- the words of a region, and then those that a child needs
+  pub region_need : (node lo n s : ℕ) → node < nodes bytes → lo + n ≤ (record_at bytes node).rows → s < kids (type_of bytes node) (record_at bytes node)
+      → region (type_of bytes node) bytes (record_at bytes node) lo n + need bytes (child bytes (record_at bytes node) s) ≤ need bytes node
+  region_need node lo n s there rows h =
+      let p = passed bytes is-sound node there in
+      let down = child_lower 15 node s p.low there (omega (arith, counts bytes is-sound node there)) in
+      omega (
+        arith,
+        reach_inside bytes node (record_at bytes node) lo n rows (type_of bytes node) p s h,
+        need_at bytes is-sound 15 node s there h,
+        need_same 15 16 15 (child bytes (record_at bytes node) s) down.1 down.0 (omega arith) (omega arith),
+      )
+
+  pub region_inside : (node lo n : ℕ) → node < nodes bytes → lo + n ≤ (record_at bytes node).rows → region (type_of bytes node) bytes (record_at bytes node) lo n ≤ need bytes node
+  region_inside node lo n there rows =
+      let t : DataType = type_of bytes node in
+      let r : Record = record_at bytes node in
+      elim (cases_eq (kids t r) 0) [
+        | inl q ↦ omega (arith, cond-true (eqb (kids t r) 0) 0 (reach_till t bytes r lo n - reach_from t bytes r lo) (eq-eqb (kids t r) 0 q))
+        | inr q ↦ omega (arith, region_need node lo n 0 there rows (omega arith))
+      ]

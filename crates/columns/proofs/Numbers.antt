@@ -1,5 +1,6 @@
 -- A completed job leaves the row rule's numbers, at every depth.
-use Rattle.std.proofs.Common.{◌≡◌, ℕ, zero, suc, ◌+◌, ◌-◌, ◌<◌, Bool, true, false, cond, eqb, List, length, Some, None, Option, sym, refl, ap, ◌∙◌, arith}
+use Rattle.std.proofs.Common.{◌≡◌, ℕ, zero, suc, ◌+◌, ◌-◌, ◌<◌, ◌≤◌, Bool, true, false, cond, eqb, List, length, get_or, Some, None, Option, sym, refl, ap, ◌∙◌, arith}
+use Rattle.std.proofs.lemmas.Bool.{cond-false}
 use Rattle.layout.specs.declared.record.Record.{Record}
 use Rattle.layout.specs.declared.data_type.DataType.{DataType}
 use Rattle.layout.specs.Nodes.{child}
@@ -7,15 +8,16 @@ use Rattle.layout.specs.Records.{nodes, record_at}
 use Rattle.admission.specs.FirstFault.{sound}
 use Rattle.admission.proofs.Links.{child_behind}
 use Rattle.hash_state.specs.Writes.{Write}
-use Rattle.image.specs.Read.{slot_within, typed_slot}
+use Rattle.image.specs.Read.{slot_at, slot_within, typed_slot}
+use Rattle.image.proofs.Levels.{deep_enough}
 use Rattle.image.specs.Slot.{Slot, null}
 use Rattle.row_rule.specs.Number.{is_null, number_of}
 use Rattle.columns.specs.Fold.{entry, is_first, is_marked, row_number, through}
 use Rattle.leaves.specs.Rows.{is_leaf}
-use Rattle.columns.specs.Jobs.{Did, Fine, kids, plan, reach_from, region, row_by, type_of}
+use Rattle.columns.specs.Jobs.{Did, Fine, kids, plan, reach_from, region, row_by, standing, type_of}
 use Rattle.columns.specs.declared.job.Job.{Job}
 use Rattle.columns.specs.Machine.{Fits, complete, turns}
-use Rattle.columns.proofs.Meaning.{Reached, did_then, ended_did, leaf_slot, opened_did, through_start, turns_did}
+use Rattle.columns.proofs.Meaning.{Reached, did_then, ended_did, leaf_slot, opened_did, row_same, through_start, turns_did}
 use Rattle.columns.proofs.Rule.{marked_slot, row_rule, values}
 use Rattle.columns.proofs.Typed.{counted, passed, typed}
 
@@ -26,7 +28,7 @@ some_kids (suc k) size x h = omega arith
 
 module _ (ONE : List Write → ℕ) (SEED : ℕ → List Write → ℕ) (bytes : List ℕ) (is-sound : sound bytes ≡ true) where
   -- the slot of a node by its type
-  typed_within : (f node row : ℕ) → node < nodes bytes → slot_within (suc f) bytes node row ≡ typed_slot (type_of bytes node) bytes (record_at bytes node) (slot_within f bytes) row
+  pub typed_within : (f node row : ℕ) → node < nodes bytes → slot_within (suc f) bytes node row ≡ typed_slot (type_of bytes node) bytes (record_at bytes node) (slot_within f bytes) row
   typed_within f node row there =
       ap (λ (o : Option DataType). elim o as (λ _. Slot) [ None ↦ null | Some t ↦ typed_slot t bytes (record_at bytes node) (slot_within f bytes) row ]) (typed bytes is-sound node there)
 
@@ -97,3 +99,26 @@ module _ (ONE : List Write → ℕ) (SEED : ℕ → List Write → ℕ) (bytes :
               ∙ ap (λ (y : ℕ). row_by ONE SEED bytes t r v j.first y (j.lo + i)) (D.below (j.at + i) (omega arith))
               ∙ node_rule f j.node (j.lo + i) j.first _ fine.there (λ z. fits_levels len f (P.child j 0) (h.1 0 z));
         })
+
+    -- a row of a column by the numbers of its child rows, which stand in a region
+    pub column_number : (node lo n row : ℕ) (numbers : List ℕ) (y : ℕ → ℕ) (first : Bool) (e : ℕ) → node < nodes bytes → lo + n ≤ (record_at bytes node).rows → lo ≤ row → row < lo + n
+        → is_leaf (type_of bytes node) ≡ false
+        → ((x : ℕ) → x < region (type_of bytes node) bytes (record_at bytes node) lo n
+        → get_or numbers x 0
+        ≡ through (λ s z. number_of ONE SEED (is_first s) (entry s z) (slot_at bytes (child bytes (record_at bytes node) s) (reach_from (type_of bytes node) bytes (record_at bytes node) lo + x))) (kids (type_of bytes node) (record_at bytes node)) 0 (y x))
+        → row_number (type_of bytes node) bytes (record_at bytes node) (standing numbers (reach_from (type_of bytes node) bytes (record_at bytes node) lo)) first e row
+        ≡ number_of ONE SEED first e (slot_at bytes node row)
+    column_number node lo n row numbers y first e there rows low high nested holds =
+        let t : DataType = type_of bytes node in
+        let r : Record = record_at bytes node in
+        let from : ℕ = reach_from t bytes r lo in
+        let v : ℕ → ℕ = values ONE SEED t bytes r (slot_within 16 bytes) in
+        row_same ONE SEED bytes reached node lo n row (standing numbers from) v first e there rows low high
+        (λ x l.
+        let z : from + x - from ≡ x = omega arith in
+        ap (λ (k : ℕ). get_or numbers k 0) z
+        ∙ holds x l
+        ∙ through_start (kids t r) (λ s w. number_of ONE SEED (is_first s) w (slot_within 16 bytes (child bytes r s) (from + x))) (y x) (some_kids (kids t r) _ x l))
+        ∙ sym (cond-false (is_leaf t) _ (row_number t bytes r v first e row) nested)
+        ∙ node_rule 16 node row first e there (λ _. omega arith)
+        ∙ ap (number_of ONE SEED first e) (deep_enough bytes is-sound node row there 1)

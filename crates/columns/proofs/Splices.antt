@@ -1,5 +1,5 @@
 -- A part of a list that is replaced.
-use Rattle.std.proofs.Common.{◌≡◌, ℕ, ◌+◌, ◌-◌, ◌<◌, ◌≤◌, ◌≢◌, List, ◌++◌, length, get_or, take, drop, set, sym, ap, ◌∙◌, inl, inr, arith, get_or-set_other, get_or-set_same, below_more}
+use Rattle.std.proofs.Common.{◌≡◌, ℕ, ◌+◌, ◌-◌, ◌<◌, ◌≤◌, min, ◌≢◌, List, ◌++◌, length, get_or, take, drop, set, sym, ap, ◌∙◌, inl, inr, arith, get_or-set_other, get_or-set_same, below_more}
 use Rattle.std.proofs.lemmas.Bool.{cases_lt}
 use borrow.Rule.Slice.PartMut.{put_mid}
 use Rattle.std.proofs.lemmas.List.{length-take, length-drop, length-append, drop-drop, get_or-take, get_or-drop, length-take-le, get_or_append_left, get_or-append_right, ext_get_or}
@@ -31,6 +31,31 @@ get_or-splice_above at n w ys j h e l =
     ∙ get_or-append_right ys (drop (at + n) w) n (j - at) 0 e (omega arith)
     ∙ get_or-drop (at + n) w (j - at - n) 0
     ∙ ap (λ (x : ℕ). get_or w x 0) (omega arith)
+
+-- what `&w[at..at + n]` holds
+pub length-lent : (at n : ℕ) (w : List ℕ) → at + n ≤ length w → length (take (at + n - at) (drop at w)) ≡ n
+length-lent at n w h = simp (length-take, length-drop) (omega arith)
+
+pub lent_part : (at n : ℕ) (w : List ℕ) → take (at + n - at) (drop at w) ≡ part at n w
+lent_part at n w = let k : at + n - at ≡ n = omega arith in rw k
+
+pub get_or-lent : (at n : ℕ) (w : List ℕ) (k : ℕ) → k < n → get_or (take (at + n - at) (drop at w)) k 0 ≡ get_or w (at + k) 0
+get_or-lent at n w k h = ap (λ (xs : List ℕ). get_or xs k 0) (lent_part at n w) ∙ get_or-part at n w k h
+
+-- words below a place that stayed
+pub take_same : (at : ℕ) (w w' : List ℕ) → length w ≡ length w' → ((j : ℕ) → j < at → get_or w j 0 ≡ get_or w' j 0) → take at w ≡ take at w'
+take_same at w w' same below =
+    let long : length (take at w) ≡ length (take at w') = simp length-take (ap (min at) same) in
+    ext_get_or 0 (take at w) (take at w') long
+    (λ j l. let m : j < at = omega (arith, simp length-take at l) in get_or-take at w j 0 m ∙ below j m ∙ sym (get_or-take at w' j 0 m))
+
+-- a part of which nothing was written
+pub part_kept : (at n : ℕ) (w₀ w : List ℕ) → length w ≡ length w₀ → at + n ≤ length w₀ → ((j : ℕ) → at ≤ j → get_or w j 0 ≡ get_or w₀ j 0) → part at n w ≡ part at n w₀
+part_kept at n w₀ w same room kept =
+    ext_get_or 0 (part at n w) (part at n w₀) (length-part at n w (omega arith) ∙ sym (length-part at n w₀ room))
+    (λ k l.
+    let m : k < n = omega (arith, length-part at n w (omega arith)) in
+    get_or-part at n w k m ∙ kept (at + k) (omega arith) ∙ sym (get_or-part at n w₀ k m))
 
 -- what `&mut w[at..at + n]` leaves
 pub put_mid-splice : (at n : ℕ) (w ys : List ℕ) (F : List ℕ → List ℕ) → ys ≡ F (take (at + n - at) (drop at w)) → put_mid at (at + n - at) w ys ≡ splice at n w (F (part at n w))

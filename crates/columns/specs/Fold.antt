@@ -46,9 +46,13 @@ folded Map bytes r v first e at = combined_all v e (offset Four bytes r at) (spa
 folded (FixedSizeList p) bytes r v first e at = combined_all v e (p * at) p
 folded (RunEnd w) bytes r v first e at = referred bytes r v first e (run_of w bytes r at)
 
--- the number of a row: its entry where it is marked null
+-- a row that is marked null keeps its entry
+abbrev pub unless_marked : DataType → List ℕ → Record → ℕ → ℕ → ℕ → ℕ
+unless_marked t bytes r row e x = cond (reads_nulls t && marked bytes r row) e x
+
+-- the number of a row, where v gives the numbers of child rows
 abbrev pub row_number : DataType → List ℕ → Record → (ℕ → ℕ) → Bool → ℕ → ℕ → ℕ
-row_number t bytes r v first e row = cond (reads_nulls t && marked bytes r row) e (folded t bytes r v first e (r.start + row))
+row_number t bytes r v first e row = unless_marked t bytes r row e (folded t bytes r v first e (r.start + row))
 
 -- a child is hashed as first where it is child 0
 abbrev pub is_first : ℕ → Bool

@@ -1,5 +1,5 @@
 -- The walk over a node's rows as jobs: a range of a node's rows, hashed into words of the work.
-use Rattle.std.specs.Prelude.{◌≡◌, ℕ, zero, suc, ◌+◌, ◌-◌, ◌*◌, ◌<◌, ◌≤◌, max, Bool, false, cond, List, ◌++◌, map, length, take, drop, replicate, Some, None, ◌==◌, slice_index}
+use Rattle.std.specs.Prelude.{◌≡◌, ℕ, zero, suc, ◌+◌, ◌-◌, ◌*◌, ◌<◌, ◌≤◌, max, Bool, false, cond, List, ◌++◌, map, length, take, drop, replicate, Some, None, ◌==◌, slice_index, Option}
 use Rattle.std.specs.List.{range_with_len}
 use Rattle.layout.specs.declared.bytes.Width.TheVariants.{Four}
 use Rattle.layout.specs.declared.record.Record.{Record}
@@ -70,8 +70,12 @@ reach_till (FixedSizeList p) bytes r lo n = p * (r.start + lo + n)
 reach_till (RunEnd w) bytes r lo n = cond (n == 0) (run_of w bytes r (r.start + lo)) (run_of w bytes r (r.start + lo + n - 1) + 1)
 
 -- the type of a node, Null where it has none
+abbrev pub or_null : Option DataType → DataType
+or_null None = Null
+or_null (Some t) = t
+
 abbrev pub type_of : List ℕ → ℕ → DataType
-type_of bytes node = elim (data_type (record_at bytes node)) [ None ↦ Null | Some t ↦ t ]
+type_of bytes node = or_null (data_type (record_at bytes node))
 
 -- how many children a node of a type has
 abbrev pub kids : DataType → Record → ℕ
@@ -97,9 +101,9 @@ abbrev pub opened : ℕ → ℕ → ℕ → List ℕ → List ℕ
 opened at n zero words = splice at n words (replicate n 0)
 opened at n (suc s) words = words
 
--- the numbers of child rows, as they stand in the words from a place on, the first for a child row
-abbrev pub standing : List ℕ → ℕ → ℕ → ℕ → ℕ
-standing words at from q = slice_index words (at + (q - from))
+-- the numbers of child rows, as they stand in a region, the first for the child row `from`
+abbrev pub standing : List ℕ → ℕ → ℕ → ℕ
+standing region from q = slice_index region (q - from)
 
 -- the job of child s: the child rows that are reached, into the words behind the job's own
 abbrev pub child_at : List ℕ → DataType → Record → Job → ℕ → Job
@@ -122,7 +126,7 @@ module _ (ONE : List Write → ℕ) (SEED : ℕ → List Write → ℕ) (bytes :
   unfoldable pub ended : DataType → Record → Job → List ℕ → List ℕ
   ended t r j words =
       splice j.at j.n words
-      (each (λ i. row_by t r (standing words (j.at + j.n) (reach_from t bytes r j.lo)) j.first (slice_index words (j.at + i)) (j.lo + i)) j.n)
+      (each (λ i. row_by t r (standing (part (j.at + j.n) (region t bytes r j.lo j.n) words) (reach_from t bytes r j.lo)) j.first (slice_index words (j.at + i)) (j.lo + i)) j.n)
 
   -- a job that can be done with so many words of work
   pub record Fine (len : ℕ) (j : Job) : Type 0 where
@@ -154,12 +158,9 @@ pub record Did (at n : ℕ) (F : ℕ → ℕ → ℕ) (words words' : List ℕ) 
   pub rows : (i : ℕ) → i < n → slice_index words' (at + i) ≡ F i (slice_index words (at + i))
 
 -- a job at a node, what it reaches, and room for both
-abbrev pub JobRange : List ℕ → ℕ → Record → Job → ℕ → ℕ → ℕ → Type 0
-JobRange bytes node r j from size len =
-    (j.lo + j.n ≤ r.rows)
-    × (j.at + j.n + size ≤ len)
-    × (from ≡ reach_from (type_of bytes node) bytes r j.lo)
-    × (size ≡ region (type_of bytes node) bytes r j.lo j.n)
+abbrev pub JobRange : List ℕ → DataType → Record → Job → ℕ → ℕ → ℕ → Type 0
+JobRange bytes t r j from size len =
+    (j.lo + j.n ≤ r.rows) × (j.at + j.n + size ≤ len) × (from ≡ reach_from t bytes r j.lo) × (size ≡ region t bytes r j.lo j.n)
 
 -- a child's rows and its need, as a table has it
 abbrev pub needs_of : List ℕ → Record → List ℕ → ℕ → ℕ

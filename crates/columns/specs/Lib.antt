@@ -2,3 +2,4 @@ pub mod Fold
 pub mod Jobs
 pub mod Machine
 pub mod Seams
+pub mod Column

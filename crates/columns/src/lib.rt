@@ -1,11 +1,17 @@
 // The number of every row of every column.
 #![tactic(auto)]
 
+mod column;
 mod fold;
 pub mod job;
 mod needs;
+mod nested;
 pub mod node;
 mod reach;
+mod region;
 mod rows;
 mod walk;
 mod words;
+
+pub use column::hash_column;
+pub use needs::need;

@@ -1,6 +1,7 @@
 // How many words of work a node needs.
 ghost use Rattle.std.specs.Prelude.{◌≡◌, ℕ, ◌+◌, ◌<◌, ◌≤◌, slice_index};
-ghost use Rattle.columns.specs.Jobs.{kids, most, need, needs_of, type_of};
+ghost use Rattle.columns.specs.Column.{node_need};
+ghost use Rattle.columns.specs.Jobs.{kids, most, need, needs_of};
 ghost use Rattle.layout.specs.Nodes.{child, child_rows};
 ghost use Rattle.layout.specs.Records.{nodes};
 
@@ -9,8 +10,8 @@ use image::place::Image;
 
 // The most of a child's rows and its need, as the table has them.
 fn need_of(node: &Node<'_>, needs: &[u32; 256]) -> u32
-    requires { (k : ℕ) → k < kids (type_of node.now.bytes.now node.now.number) node.now.r → (child node.now.bytes.now node.now.r k < 256) × (slice_index needs.now (child node.now.bytes.now node.now.r k) ≤ 16777216) }
-    ensures { result ≡ most (needs_of node.now.bytes.now node.now.r needs.now) (kids (type_of node.now.bytes.now node.now.number) node.now.r) }
+    requires { (k : ℕ) → k < kids node.now.t node.now.r → (child node.now.bytes.now node.now.r k < 256) × (slice_index needs.now (child node.now.bytes.now node.now.r k) ≤ 16777216) }
+    ensures { result ≡ most (needs_of node.now.bytes.now node.now.r needs.now) (kids node.now.t node.now.r) }
 {
     let mut most = 0u32;
     for index in 0..node.kids() {
@@ -25,7 +26,7 @@ fn need_of(node: &Node<'_>, needs: &[u32; 256]) -> u32
 
 // The need of a node, by one pass over the nodes from the last to it: a child with many parents is
 // looked at once.
-pub(crate) fn need(image: &Image<'_>, number: u32) -> u32
+fn need_from(image: &Image<'_>, number: u32) -> u32
     requires { number < nodes image.now.bytes.now }
     ensures { result ≡ need image.now.bytes.now number }
 {
@@ -35,4 +36,14 @@ pub(crate) fn need(image: &Image<'_>, number: u32) -> u32
         needs[at as usize] = need_of(&node, &needs);
     }
     needs[number as usize]
+}
+
+// How many words of work a node needs, or none where there is no such node.
+pub fn need(image: &Image<'_>, node: u64) -> Option<u32>
+    ensures { result ≡ node_need image.now.bytes.now node }
+{
+    if node >= u64::from(image.node_count()) {
+        return None;
+    }
+    Some(need_from(image, node as u32))
 }

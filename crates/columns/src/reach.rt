@@ -1,8 +1,8 @@
 // The child rows that rows of a node reach.
-ghost use Rattle.std.specs.Prelude.{◌≡◌, ◌+◌, ◌-◌, ◌*◌, ◌^◌, ◌<◌, ◌≤◌, false, length, if◌then◌else◌, nat_eq};
+ghost use Rattle.std.specs.Prelude.{◌≡◌, ◌+◌, ◌-◌, ◌*◌, ◌^◌, ◌<◌, ◌≤◌, false, ◌&&◌, length, if◌then◌else◌, ◌==◌, nat_eq, nat_lt};
 ghost use Rattle.admission.specs.Rejections.{bad_run_ends};
 ghost use Rattle.columns.specs.Seams.{ReachThere, RunsThere};
-ghost use Rattle.columns.specs.Jobs.{reach_from, region, type_of};
+ghost use Rattle.columns.specs.Jobs.{reach_from, region};
 ghost use Rattle.admission.specs.Seams.{ElementThere};
 ghost use Rattle.image.specs.Read.{offset, run_of};
 ghost use Rattle.layout.specs.Bytes.{wide};
@@ -14,7 +14,7 @@ use layout::data_type::DataType;
 use layout::record::Record;
 
 // The run of an element, by halving: run ends rise.
-pub(crate) fn run_of(width: Width, bytes: &[u8], r: &Record, runs: u32, at: u64) -> u32
+fn run_of(width: Width, bytes: &[u8], r: &Record, runs: u32, at: u64) -> u32
     requires runs { runs ≡ child_rows bytes.now r.now 0 }
     requires inside { r.now.a + wide width * runs ≤ length bytes.now }
     requires ordered { bad_run_ends width bytes.now r.now ≡ false }
@@ -31,6 +31,50 @@ pub(crate) fn run_of(width: Width, bytes: &[u8], r: &Record, runs: u32, at: u64)
         }
     }
     low
+}
+
+// Whether a run is that of an element.
+fn covers(width: Width, bytes: &[u8], r: &Record, runs: u32, at: u64, run: u32) -> bool
+    requires runs { runs ≡ child_rows bytes.now r.now 0 }
+    requires inside { r.now.a + wide width * runs ≤ length bytes.now }
+    requires ordered { bad_run_ends width bytes.now r.now ≡ false }
+    ensures { result ≡ (nat_lt run runs && (run_of width bytes.now r.now at) == run) }
+{
+    if run >= runs {
+        return false;
+    }
+    if element_at(width, bytes, r.a as usize, run as usize) <= at {
+        return false;
+    }
+    if run == 0 {
+        return true;
+    }
+    element_at(width, bytes, r.a as usize, run as usize - 1) <= at
+}
+
+// The run of an element, tried first at the run of the row before and at the next one: of rows one after the other,
+// all but the first are found so.
+pub(crate) fn run_near(
+    width: Width,
+    bytes: &[u8],
+    r: &Record,
+    runs: u32,
+    at: u64,
+    before: u32,
+) -> u32
+    requires runs { runs ≡ child_rows bytes.now r.now 0 }
+    requires inside { r.now.a + wide width * runs ≤ length bytes.now }
+    requires ordered { bad_run_ends width bytes.now r.now ≡ false }
+    ensures { result ≡ run_of width bytes.now r.now at }
+{
+    if covers(width, bytes, r, runs, at, before) {
+        return before;
+    }
+    let next = before.saturating_add(1);
+    if covers(width, bytes, r, runs, at, next) {
+        return next;
+    }
+    run_of(width, bytes, r, runs, at)
 }
 
 // The rows between two offsets: the first of them, and how many.
@@ -82,9 +126,9 @@ impl Node<'_> {
     // The child rows that `n` rows from `lo` on reach: the first of them, and how many.
     pub(crate) fn reach(&self, lo: u32, n: u32) -> (u32, u32)
         requires { lo + n ≤ self.now.r.rows }
-        ensures from { result.0 ≡ reach_from (type_of self.now.bytes.now self.now.number) self.now.bytes.now self.now.r lo }
-        ensures size { result.1 ≡ region (type_of self.now.bytes.now self.now.number) self.now.bytes.now self.now.r lo n }
+        ensures from { result.0 ≡ reach_from self.now.t self.now.bytes.now self.now.r lo }
+        ensures size { result.1 ≡ region self.now.t self.now.bytes.now self.now.r lo n }
     {
-        reach_rows(self.bytes, self.data_type(), &self.r, lo, n)
+        reach_rows(self.bytes, self.t, &self.r, lo, n)
     }
 }

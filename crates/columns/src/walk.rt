@@ -1,7 +1,7 @@
 // The walk over a node's descendants, as a loop over 16 stacked frames.
-ghost use Rattle.std.specs.Prelude.{◌≡◌, ℕ, ◌+◌, ◌^◌, ◌<◌, ◌≤◌, true, length, None, slice_index};
+ghost use Rattle.std.specs.Prelude.{◌≡◌, ℕ, ◌+◌, ◌^◌, ◌<◌, ◌≤◌, true, false, length, None, slice_index};
 ghost use Rattle.columns.specs.Fold.{row_number};
-ghost use Rattle.columns.specs.Jobs.{JobRange, child_at, each, ended, kids, opened, plan, region, splice, standing, type_of};
+ghost use Rattle.columns.specs.Jobs.{JobRange, child_at, each, ended, kids, opened, part, plan, region, splice, standing};
 ghost use Rattle.columns.specs.Machine.{Fits, complete};
 ghost use Rattle.image.specs.Read.{typed_slot};
 ghost use Rattle.image.specs.Slot.{null};
@@ -9,40 +9,13 @@ ghost use Rattle.leaves.specs.Rows.{is_leaf};
 ghost use Rattle.row_rule.specs.Number.{number_of};
 
 use crate::job::{Frame, Job};
+use crate::nested::fold_job;
 use crate::node::Node;
 use crate::words::open;
 use hash_state::HashState;
 use image::place::Image;
 use layout::data_type::DataType;
 use leaves::hash_leaf;
-
-// The number of a job's row i, from its word and the region behind the job's words.
-fn fold_at(node: &Node<'_>, job: Job, from: u32, size: u32, work: &[u64], i: u32) -> u64
-    requires row { i < job.n }
-    requires range { JobRange node.now.bytes.now node.now.number node.now.r job from size (length work.now) }
-    ensures { result ≡ row_number (type_of node.now.bytes.now node.now.number) node.now.bytes.now node.now.r (standing work.now (job.at + job.n) from) job.first (slice_index work.now (job.at + i)) (job.lo + i) }
-{
-    let start = job.at + job.n as usize;
-    let e = work[job.at + i as usize];
-    node.fold_row(
-        job.lo + i,
-        &work[start..start + size as usize],
-        from,
-        job.first,
-        e,
-    )
-}
-
-// Folds the region behind a job's words into them, row by row.
-fn fold_words(node: &Node<'_>, job: Job, from: u32, size: u32, work: &mut [u64])
-    requires { JobRange node.now.bytes.now node.now.number node.now.r job from size (length work.old) }
-    ensures { work.new ≡ splice job.at job.n work.old (each (λ i. row_number (type_of node.now.bytes.now node.now.number) node.now.bytes.now node.now.r (standing work.old (job.at + job.n) from) job.first (slice_index work.old (job.at + i)) (job.lo + i)) job.n) }
-{
-    for i in 0..job.n {
-        let number = fold_at(node, job, from, size, work, i);
-        work[job.at + i as usize] = number;
-    }
-}
 
 // Child rows are hashed over a range, never through a list.
 fn no_list<'a>() -> Option<&'a [u32]>
@@ -53,16 +26,16 @@ fn no_list<'a>() -> Option<&'a [u32]>
 
 // Hashes the rows of a leaf into a job's words.
 fn hash_words<S: HashState>(node: &Node<'_>, job: Job, state: &S, work: &mut [u64])
-    requires leaf { is_leaf (type_of node.now.bytes.now node.now.number) ≡ true }
+    requires leaf { is_leaf node.now.t ≡ true }
     requires rows { job.lo + job.n ≤ node.now.r.rows }
     requires room { job.at + job.n ≤ length work.old }
-    ensures { work.new ≡ splice job.at job.n work.old (each (λ i. number_of (S.BuildHasher.one state.now) (S.HashState.seeded state.now) job.first (slice_index work.old (job.at + i)) (typed_slot (type_of node.now.bytes.now node.now.number) node.now.bytes.now node.now.r (λ _ _. null) (job.lo + i))) job.n) }
+    ensures { work.new ≡ splice job.at job.n work.old (each (λ i. number_of (S.BuildHasher.one state.now) (S.HashState.seeded state.now) job.first (slice_index work.old (job.at + i)) (typed_slot node.now.t node.now.bytes.now node.now.r (λ _ _. null) (job.lo + i))) job.n) }
 {
     let at = job.at;
     let end = at + job.n as usize;
     hash_leaf(
         node.bytes,
-        node.data_type(),
+        node.t,
         &node.r,
         job.lo,
         no_list(),
@@ -72,7 +45,7 @@ fn hash_words<S: HashState>(node: &Node<'_>, job: Job, state: &S, work: &mut [u6
     );
 }
 
-fn is_leaf(t: DataType) -> bool
+pub(crate) fn is_leaf(t: DataType) -> bool
     ensures { result ≡ is_leaf t }
 {
     !matches!(
@@ -90,24 +63,24 @@ fn is_leaf(t: DataType) -> bool
 // The end of a job: the words of its rows, once those of its children stand behind them.
 fn leave<S: HashState>(node: &Node<'_>, job: Job, state: &S, work: &mut [u64])
     requires rows { job.lo + job.n ≤ node.now.r.rows }
-    requires room { job.at + job.n + region (type_of node.now.bytes.now node.now.number) node.now.bytes.now node.now.r job.lo job.n ≤ length work.old }
-    ensures { work.new ≡ ended (S.BuildHasher.one state.now) (S.HashState.seeded state.now) node.now.bytes.now (type_of node.now.bytes.now node.now.number) node.now.r job work.old }
+    requires room { job.at + job.n + region node.now.t node.now.bytes.now node.now.r job.lo job.n ≤ length work.old }
+    ensures { work.new ≡ ended (S.BuildHasher.one state.now) (S.HashState.seeded state.now) node.now.bytes.now node.now.t node.now.r job work.old }
 {
-    if is_leaf(node.data_type()) {
+    if is_leaf(node.t) {
         hash_words(node, job, state, work);
     } else {
         let (from, size) = node.reach(job.lo, job.n);
-        fold_words(node, job, from, size, work);
+        fold_job(node, job, from, size, work);
     }
 }
 
 // The job of a child, over the region behind the job's words, which is cleared before child 0.
 fn enter(node: &Node<'_>, job: Job, stage: u32, work: &mut [u64]) -> Job
     requires rows { job.lo + job.n ≤ node.now.r.rows }
-    requires room { job.at + job.n + region (type_of node.now.bytes.now node.now.number) node.now.bytes.now node.now.r job.lo job.n ≤ length work.old }
-    requires child { stage < kids (type_of node.now.bytes.now node.now.number) node.now.r }
-    ensures job { result ≡ child_at node.now.bytes.now (type_of node.now.bytes.now node.now.number) node.now.r job stage }
-    ensures words { work.new ≡ opened (job.at + job.n) (region (type_of node.now.bytes.now node.now.number) node.now.bytes.now node.now.r job.lo job.n) stage work.old }
+    requires room { job.at + job.n + region node.now.t node.now.bytes.now node.now.r job.lo job.n ≤ length work.old }
+    requires child { stage < kids node.now.t node.now.r }
+    ensures job { result ≡ child_at node.now.bytes.now node.now.t node.now.r job stage }
+    ensures words { work.new ≡ opened (job.at + job.n) (region node.now.t node.now.bytes.now node.now.r job.lo job.n) stage work.old }
 {
     let (from, size) = node.reach(job.lo, job.n);
     let at = job.at + job.n as usize;
@@ -123,7 +96,7 @@ fn enter(node: &Node<'_>, job: Job, stage: u32, work: &mut [u64]) -> Job
 }
 
 // Does a job and all below it: the frame in hand, and 16 that wait.
-fn walk<S: HashState>(image: &Image<'_>, root: Job, state: &S, work: &mut [u64])
+pub(crate) fn walk<S: HashState>(image: &Image<'_>, root: Job, state: &S, work: &mut [u64])
     requires { Fits (plan (S.BuildHasher.one state.now) (S.HashState.seeded state.now) image.now.bytes.now (length work.old)) 16 root }
     ensures { work.new ≡ complete (plan (S.BuildHasher.one state.now) (S.HashState.seeded state.now) image.now.bytes.now (length work.old)) 16 root 0 work.old }
 {

@@ -2,9 +2,8 @@ use Rattle.std.proofs.Common.{◌≡◌, ℕ, ◌+◌, max, List, get_or, ap, �
 use Rattle.layout.specs.declared.record.Record.{Record}
 use Rattle.layout.specs.Nodes.{child, child_rows}
 use Rattle.layout.specs.Records.{record_at}
-use Rattle.columns.specs.Jobs.{kids, most, needs_of, type_of}
-use Rattle.columns.proofs.Nodes.{node_passed}
-use Rattle.columns.proofs.Ranges.{short}
+use Rattle.columns.specs.Jobs.{kids, most, needs_of}
+use Rattle.columns.proofs.Nodes.{node_short}
 use Rattle.columns.proofs.needs.need_of.Goals as goal
 use Rattle.columns.proofs.needs.need_of.Goals.{then-need-most, else-need-most}
 
@@ -12,7 +11,7 @@ pub overflow_add-need : goal.overflow_add-need
 overflow_add-need c =
     let n = c.args.node.now in
     let below = c.child-child.result in
-    let few = short below.r (node_passed below.bytes.now below.sound below.number below.there below.r below.read).short in
+    let few = node_short below in
     let small = (c.requires c.loop-index.index (omega arith)).1 in
     let same = ap (λ (k : ℕ). get_or c.args.needs.now k 0) c.child-child.ensures.number in
     omega (arith, few.0, small, same)
@@ -36,5 +35,5 @@ loop-index-preserved c =
 pub returns : goal.returns
 returns c =
     let n = c.args.node.now in
-    let end : c.loop-index.index ≡ kids (type_of n.bytes.now n.number) n.r = omega (arith, c.kids-index-end.ensures) in
+    let end : c.loop-index.index ≡ kids n.t n.r = omega (arith, c.kids-index-end.ensures) in
     c.loop-index.invariant ∙ ap (most (needs_of n.bytes.now n.r c.args.needs.now)) end
