@@ -1,6 +1,5 @@
 -- The hashes of many rows as one number.
-use Rattle.std.specs.Prelude.{ℕ, zero, suc}
-use Rattle.std.specs.Int.Bits.{bit_xor}
+use Rattle.std.specs.Prelude.{ℕ, zero, suc, bit_xor}
 
 -- The exclusive or of the hashes of the rows below n.
 abbrev pub rows : (ℕ → ℕ) → ℕ → ℕ

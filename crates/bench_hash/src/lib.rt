@@ -1,4 +1,6 @@
 // Hashing for C to call, so that it can be timed beside Rust's and compared with it.
+#![tactic(auto)]
+
 ghost use Rattle.std.specs.Prelude.{◌≡◌, [], ◌∷◌, ◌%◌, min, drop, take};
 ghost use Rattle.hash_state.specs.Values.{number};
 ghost use Rattle.hash_state.specs.Writes.{Bytes, joined};
@@ -6,10 +8,9 @@ ghost use Rattle.hash_state.specs.Fnv.{fnv1a};
 ghost use Rattle.hash_state.specs.Sip.{siphash};
 ghost use Rattle.bench_hash.specs.Rows.{rows};
 
-use hash_state::fnv::Hasher as _;
 use hash_state::{
     Binary, BuildHasher, Float16, Float32, Float64, Fnv1aState, HashState, HashValue, Hasher,
-    Nothing, SipHashState, Text, View, hash_entry,
+    Nothing, SipHashState, Text, View, hash_later,
 };
 
 // The hashes of the words below n, made one by exclusive or.
@@ -68,7 +69,11 @@ pub extern "C" fn rt_sip_strings(k0: u64, k1: u64, bytes: &[u8; 16384], len: u64
 
 // The hash of a value by itself, or in a later column.
 fn hash_as<S: HashState, V: HashValue>(state: &S, value: &V, later: bool, entry: u64) -> u64 {
-    hash_entry(value, state, !later, entry)
+    if later {
+        hash_later(value, state, entry)
+    } else {
+        value.hash_one(state)
+    }
 }
 
 // A view that holds the words, or one of the bytes.

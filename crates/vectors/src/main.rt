@@ -1,8 +1,9 @@
 // Runs the published vectors of FNV-1a and SipHash-2-4, each written to a hasher in several ways.
+#![tactic(auto)]
+
 ghost use Rattle.std.specs.Prelude.{◌+◌, ◌<◌, ◌≤◌, length};
 
 use anyhow::anyhow;
-use hash_state::fnv::Hasher as _;
 use hash_state::{BuildHasher, Fnv1aState, Hasher, SipHashState};
 
 mod tables;

@@ -1,11 +1,6 @@
-use mathlib.Core.Path.{◌≡◌, sym, ap, ap₂, ◌∙◌}
-use mathlib.Core.List.{List, [], ◌∷◌}
-use Prim.Native.Nat.{ℕ, ◌+◌, ◌-◌, ◌%◌}
-use native.Mathlib.Numerals.{add-one}
-use native.Mathlib.Omega.{arith}
+use Rattle.std.proofs.Common.{◌≡◌, sym, ap, ap₂, ◌∙◌, List, [], ◌∷◌, ℕ, ◌+◌, ◌-◌, ◌%◌, add-one, arith, drop, take}
 use lib.Bits.{bit_xor}
-use lib.ListN.{drop, take}
-use Rattle.hash_state.specs.Writes.{Bytes, Write}
+use Rattle.hash_state.specs.Writes.{Bytes}
 use Rattle.bench_hash.specs.Rows.{rows}
 use Rattle.bench_hash.proofs.strings.Goals as goal
 

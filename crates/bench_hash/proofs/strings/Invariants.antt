@@ -1,7 +1,4 @@
-use mathlib.Core.Path.{◌≡◌}
-use mathlib.Core.List.{[], ◌∷◌}
-use Prim.Native.Nat.{◌%◌, min}
-use lib.ListN.{drop, take}
+use Rattle.std.proofs.Common.{◌≡◌, [], ◌∷◌, ◌%◌, drop, take}
 use Rattle.hash_state.specs.Writes.{Bytes}
 use Rattle.bench_hash.specs.Rows.{rows}
 use Rattle.bench_hash.proofs.strings.Given as goal

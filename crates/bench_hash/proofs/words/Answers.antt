@@ -1,6 +1,4 @@
-use mathlib.Core.Path.{◌≡◌, sym, ap, ap₂, ◌∙◌}
-use Prim.Native.Nat.{ℕ}
-use native.Mathlib.Numerals.{add-one}
+use Rattle.std.proofs.Common.{sym, ap, ap₂, ◌∙◌, ℕ, add-one}
 use lib.Bits.{bit_xor}
 use Rattle.hash_state.specs.Values.{number}
 use Rattle.bench_hash.specs.Rows.{rows}

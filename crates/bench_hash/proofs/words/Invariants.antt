@@ -1,4 +1,4 @@
-use mathlib.Core.Path.{◌≡◌}
+use Rattle.std.proofs.Common.{◌≡◌}
 use Rattle.hash_state.specs.Values.{number}
 use Rattle.bench_hash.specs.Rows.{rows}
 use Rattle.bench_hash.proofs.words.Given as goal
