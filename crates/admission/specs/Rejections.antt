@@ -1,5 +1,5 @@
 -- When each rejection applies to a node: r is its record, t its type.
-use Rattle.std.specs.Prelude.{ℕ, zero, suc, ◌+◌, ◌-◌, ◌*◌, Bool, true, false, cond, not, ◌&&◌, ◌||◌, ltb, List, length, ◌==◌, nat_le, nat_lt, slice_index}
+use Rattle.std.specs.Prelude.{ℕ, zero, suc, ◌+◌, ◌-◌, ◌*◌, Bool, true, false, cond, not, ◌&&◌, ◌||◌, List, length, ◌==◌, nat_le, nat_lt, slice_index}
 use Rattle.layout.specs.declared.bytes.Width.{Width}
 use Rattle.layout.specs.declared.bytes.Width.TheVariants.{Four}
 use Rattle.layout.specs.declared.record.Record.{Record}
@@ -146,7 +146,7 @@ out_of_reach bytes (Binary w) r = outside (length bytes) r.b (last_offset w byte
 out_of_reach bytes (FixedSizeBinary p) r = false
 out_of_reach bytes View r = some_below r.rows (λ row. bad_reference bytes r row (view_place r row))
 out_of_reach bytes (Dictionary w signed) r = some_below r.rows (bad_key bytes w signed r)
-out_of_reach bytes Struct r = some_below r.cnt (λ k. ltb (child_rows bytes r k) (elements r))
+out_of_reach bytes Struct r = some_below r.cnt (λ k. nat_lt (child_rows bytes r k) (elements r))
 out_of_reach bytes (ListOf w) r = nat_lt (child_rows bytes r 0) (last_offset w bytes r)
 out_of_reach bytes (ListView w) r = some_below r.rows (bad_list_view bytes w r)
 out_of_reach bytes Map r = nat_lt (child_rows bytes r 0) (last_offset Four bytes r) || nat_lt (child_rows bytes r 1) (last_offset Four bytes r)

@@ -3,7 +3,7 @@
 
 ghost use Rattle.std.specs.Prelude.{◌≡◌, None};
 
-use columns::{hash_column, need};
+use columns::{hash_column, node_need};
 use hash_state::{Fnv1aState, HashState, SipHashState};
 use image::place::Image;
 
@@ -33,7 +33,7 @@ fn hash_times<S: HashState>(
     let Some(r) = image.node(node) else {
         return false;
     };
-    let Some(words) = need(&image, node) else {
+    let Some(words) = node_need(&image, node) else {
         return false;
     };
     if r.rows as usize > entries.len() || words as usize > work.len() {

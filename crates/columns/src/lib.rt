@@ -14,4 +14,4 @@ mod walk;
 mod words;
 
 pub use column::hash_column;
-pub use needs::need;
+pub use needs::node_need;

@@ -26,7 +26,7 @@ fn need_of(node: &Node<'_>, needs: &[u32; 256]) -> u32
 
 // The need of a node, by one pass over the nodes from the last to it: a child with many parents is
 // looked at once.
-fn need_from(image: &Image<'_>, number: u32) -> u32
+pub(crate) fn need(image: &Image<'_>, number: u32) -> u32
     requires { number < nodes image.now.bytes.now }
     ensures { result ≡ need image.now.bytes.now number }
 {
@@ -39,11 +39,11 @@ fn need_from(image: &Image<'_>, number: u32) -> u32
 }
 
 // How many words of work a node needs, or none where there is no such node.
-pub fn need(image: &Image<'_>, node: u64) -> Option<u32>
+pub fn node_need(image: &Image<'_>, node: u64) -> Option<u32>
     ensures { result ≡ node_need image.now.bytes.now node }
 {
     if node >= u64::from(image.node_count()) {
         return None;
     }
-    Some(need_from(image, node as u32))
+    Some(need(image, node as u32))
 }

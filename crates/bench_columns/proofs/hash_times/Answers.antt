@@ -11,7 +11,7 @@ pub hash_column-requires : goal.hash_column-requires
 hash_column-requires g c =
     let B = c.admit.new.self.bytes.now in
     let r = record_there B c.args.node c.in-Some.r c.in-Some.ensures in
-    let words = need_there B c.args.node c.in-Some-need.words c.in-Some-need.ensures in
+    let words = need_there B c.args.node c.in-Some-node_need.words c.in-Some-node_need.ensures in
     let rows = ap (λ (x : Record). x.rows) r.1 in
     let none = c.no_list.ensures in
     let met : met_rows (record_at B c.args.node).rows c.no_list.result ≡ c.in-Some.r.rows = ap (met_rows (record_at B c.args.node).rows) none ∙ sym rows in

@@ -8,7 +8,7 @@ use Rattle.columns.specs.Jobs.{kids, most, need as need_of_node, needs_of, type_
 use Rattle.columns.proofs.Nodes.{at_node, of_node}
 use Rattle.columns.proofs.Needed.{need_by, need_small}
 use Rattle.columns.proofs.Typed.{passed}
-use Rattle.columns.proofs.needs.need_from.Goals as goal
+use Rattle.columns.proofs.needs.need.Goals as goal
 
 pub need_of-requires : goal.need_of-requires
 need_of-requires c =
