@@ -1,7 +1,7 @@
 #!/usr/bin/env python3
 """Row numbers of columns: images with the number of each row.
 
-    tests/columns.py [DIRECTORY]            writes DIRECTORY/stdin (crates/vectors if none is given)
+    tests/columns.py [DIRECTORY]            writes DIRECTORY/stdin (tests/rows if none is given)
     tests/columns.py --check [DIRECTORY]    tries the images and whether the file is up to date
 
 A case begins with columns by what they mean: each row is a slot, a tree of
@@ -1127,7 +1127,7 @@ def main():
     assert not missing, sorted(missing, key=str)
 
     text = "\n".join(["# tests/columns.py writes this file and says what the lines are"] + lines) + "\n"
-    file = (pathlib.Path(words[0]) if words else ROOT / "crates" / "vectors") / "stdin"
+    file = (pathlib.Path(words[0]) if words else ROOT / "tests" / "rows") / "stdin"
     if checking:
         for image, columns in images:
             check(image, columns)
