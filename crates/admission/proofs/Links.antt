@@ -1,6 +1,6 @@
 -- What a table that has passed lets a later check read.
-use Rattle.std.proofs.Common.{◌≡◌, ℕ, ◌+◌, ◌*◌, ◌<◌, ◌≤◌, Bool, false, ◌||◌, ltb, leb, List, length, arith}
-use Rattle.std.proofs.lemmas.Bool.{leb-false, ltb-false, or_parts}
+use Rattle.std.proofs.Common.{◌≡◌, ℕ, ◌+◌, ◌*◌, ◌<◌, ◌≤◌, false, ◌||◌, leb, List, length, arith}
+use Rattle.std.proofs.lemmas.Bool.Decides.{nat_tests}
 use Rattle.layout.specs.declared.record.Record.{Record}
 use Rattle.layout.specs.declared.data_type.DataType.{DataType}
 use Rattle.layout.specs.declared.data_type.DataType.TheVariants.{Null, Boolean, Number, Float, Utf8, Binary, FixedSizeBinary, View, Dictionary, Struct, List as ListOf, ListView, Map, FixedSizeList, RunEnd}
@@ -8,21 +8,16 @@ use Rattle.layout.specs.declared.data_type.Table.{Table}
 use Rattle.layout.specs.declared.data_type.Table.TheVariants.{Unread, Children, Pairs}
 use Rattle.layout.specs.Nodes.{ChildThere, child, listed, table}
 use Rattle.layout.specs.Records.{nodes}
-use Rattle.admission.specs.Rejections.{bad_child, bad_table, outside}
+use Rattle.admission.specs.Rejections.{bad_child, bad_table}
 use Rattle.admission.specs.Seams.{Headed, Linked}
 use Rattle.admission.proofs.Below.{none_at}
 
 -- of a list of children: how many there are, and that their numbers can be read
 pub children_parts : (len least most : ℕ) (r : Record) → bad_table len (Children least most) r ≡ false → (least ≤ r.cnt) × (r.tab + 4 * r.cnt ≤ len)
-children_parts len least most r e =
-    let parts = or_parts (ltb r.cnt least) (ltb most r.cnt || outside len r.tab (4 * r.cnt)) e in
-    let more = or_parts (ltb most r.cnt) (outside len r.tab (4 * r.cnt)) parts.1 in
-    (ltb-false r.cnt least parts.0, ltb-false len (r.tab + 4 * r.cnt) more.1)
+children_parts len least most r e = (grind (arith, nat_tests), grind (arith, nat_tests))
 
 pairs_inside : (len most : ℕ) (r : Record) → bad_table len (Pairs most) r ≡ false → (k : ℕ) → k < r.cnt → r.tab + 8 * k + 8 ≤ len
-pairs_inside len most r e k h =
-    let parts = or_parts (ltb most r.cnt) (outside len r.tab (8 * r.cnt)) e in
-    omega (arith, ltb-false len (r.tab + 8 * r.cnt) parts.1)
+pairs_inside len most r e k h = grind (arith, nat_tests)
 
 module _ (bytes : List ℕ) (node : ℕ) (r : Record) where
   -- a child's number can be read, lies behind the node and is there
@@ -31,9 +26,8 @@ module _ (bytes : List ℕ) (node : ℕ) (r : Record) where
   child_behind Unread e f k h = absurd (omega arith)
   child_behind (Pairs most) e f k h = absurd (omega arith)
   child_behind (Children least most) e f k h =
-      let bad : ℕ → Bool = λ k. leb (child bytes r k) node || leb (nodes bytes) (child bytes r k) in
-      let parts = or_parts (leb (child bytes r k) node) (leb (nodes bytes) (child bytes r k)) (none_at r.cnt bad k f h) in
-      (omega (arith, (children_parts (length bytes) least most r e).1), leb-false (child bytes r k) node parts.0, leb-false (nodes bytes) (child bytes r k) parts.1)
+      let placed = none_at r.cnt (λ k. leb (child bytes r k) node || leb (nodes bytes) (child bytes r k)) k f h in
+      (omega (arith, (children_parts (length bytes) least most r e).1), grind (arith, nat_tests, placed), grind (arith, nat_tests, placed))
 
   module _ (headed : Headed bytes) where
     children_there : (least most : ℕ) → bad_table (length bytes) (Children least most) r ≡ false → bad_child bytes node (Children least most) r ≡ false

@@ -1,6 +1,7 @@
 -- What the checks that have passed let a later one read.
-use Rattle.std.proofs.Common.{◌≡◌, ℕ, ◌+◌, ◌*◌, ◌<◌, ◌≤◌, Bool, true, false, not, ◌&&◌, ◌||◌, eqb, ltb, leb, List, length, sym, arith}
-use Rattle.std.proofs.lemmas.Bool.{true≢false, leb-false, ltb-false, or_parts}
+use Rattle.std.proofs.Common.{◌≡◌, ℕ, ◌+◌, ◌*◌, ◌<◌, ◌≤◌, Bool, true, false, not, ◌&&◌, ◌||◌, eqb, ltb, leb, List, length, arith}
+use Rattle.std.proofs.lemmas.Bool.{ltb-false, or_parts}
+use Rattle.std.proofs.lemmas.Bool.Decides.{nat_tests}
 use Rattle.layout.specs.declared.record.Record.{Record}
 use Rattle.layout.specs.declared.data_type.DataType.{DataType}
 use Rattle.layout.specs.declared.data_type.DataType.TheVariants.{View}
@@ -21,11 +22,7 @@ bit_held bytes r row h e no_zero =
 -- what it says of an unmarked long view that it is in reach
 reference_parts : (mark long : Bool) (count buffer size offset len : ℕ) → (not mark && (long && (leb count buffer || ltb size (offset + len)))) ≡ false
     → mark ≡ false → long ≡ true → (buffer < count) × (offset + len ≤ size)
-reference_parts true long count buffer size offset len e p q = absurd (true≢false p)
-reference_parts false false count buffer size offset len e p q = absurd (true≢false (sym q))
-reference_parts false true count buffer size offset len e p q =
-    let parts = or_parts (leb count buffer) (ltb size (offset + len)) e in
-    (leb-false count buffer parts.0, ltb-false size (offset + len) parts.1)
+reference_parts mark long count buffer size offset len e p q = (grind (arith, nat_tests), grind (arith, nat_tests))
 
 -- the bitmap of a node, if it has one, and its own buffers lie inside
 pub bitmap_passed : (bytes : List ℕ) (t : DataType) (r : Record) → bad_buffer bytes t r ≡ false

@@ -7,10 +7,10 @@ use Rattle.admission.specs.Seams.{HeightOf, Heights}
 
 at_none : (o : Option ℕ) (node : ℕ) (next : Option (ℕ × ℕ)) → None ≡ at_node o node None → at_node o node next ≡ next
 at_none None node next e = refl
-at_none (Some number) node next e = let z : ◌≡◌ {A = ℕ} 0 1 = cc in absurd (omega arith)
+at_none (Some number) node next e = cc
 
 at_some : (o : Option ℕ) (node : ℕ) (next : Option (ℕ × ℕ)) (fault : ℕ × ℕ) → Some fault ≡ at_node o node None → at_node o node next ≡ Some fault
-at_some None node next fault e = let z : ◌≡◌ {A = ℕ} 0 1 = cc in absurd (omega arith)
+at_some None node next fault e = cc
 at_some (Some number) node next fault e = sym e
 
 module _ (bytes : List ℕ) (i node : ℕ) (next : i ≡ suc node) where

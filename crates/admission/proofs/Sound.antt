@@ -1,6 +1,8 @@
 -- What the soundness of an image says of each of its nodes.
-use Rattle.std.proofs.Common.{◌≡◌, ℕ, zero, suc, ◌+◌, ◌*◌, ◌<◌, ◌≤◌, Bool, true, false, cond, ◌||◌, eqb, ltb, List, [], ◌∷◌, length, Some, None, Option, sym, refl, ap, ◌∙◌, inl, inr, arith}
-use Rattle.std.proofs.lemmas.Bool.{cases_eq, ltb-false, or_parts, true≢false}
+use Rattle.std.proofs.Common.{◌≡◌, ℕ, zero, suc, ◌<◌, ◌≤◌, Bool, true, false, cond, List, [], ◌∷◌, length, Some, None, Option, sym, refl, ap, ◌∙◌, inl, inr, arith}
+use Rattle.std.proofs.lemmas.Bool.{cases_eq, true≢false}
+use Rattle.std.proofs.lemmas.Bool.Decides.{nat_tests}
+use Rattle.std.proofs.lemmas.Option.{none-some}
 use Rattle.layout.specs.declared.record.Record.{Record}
 use Rattle.layout.specs.declared.data_type.DataType.{DataType}
 use Rattle.layout.specs.Nodes.{table}
@@ -22,12 +24,12 @@ pub record Passed (bytes : List ℕ) (node : ℕ) (t : DataType) (r : Record) : 
   pub padded : bad_views bytes t r ≡ false
 
 cond_none : {A : Type 0} (b : Bool) (x : A) (rest : Option A) → cond b (Some x) rest ≡ None → (b ≡ false) × (rest ≡ None)
-cond_none true x rest e = let z : ◌≡◌ {A = ℕ} 0 1 = cc in absurd (omega arith)
+cond_none true x rest e = (cc, cc)
 cond_none false x rest e = (refl, e)
 
 at_node_none : (o : Option ℕ) (node : ℕ) (next : Option (ℕ × ℕ)) → at_node o node next ≡ None → (o ≡ None) × (next ≡ None)
 at_node_none None node next e = (refl, e)
-at_node_none (Some number) node next e = let z : ◌≡◌ {A = ℕ} 0 1 = cc in absurd (omega arith)
+at_node_none (Some number) node next e = absurd (none-some (number, node) (sym e))
 
 none_when_sound : (o : Option (ℕ × ℕ)) → (elim o as (λ _. Bool) [ None ↦ true | Some _ ↦ false ]) ≡ true → o ≡ None
 none_when_sound None e = refl
@@ -57,7 +59,7 @@ passed_from bytes node t r e =
 
 typed_from : (bytes : List ℕ) (node : ℕ) (r : Record) (o : Option DataType)
     → (elim o as (λ _. Option ℕ) [ None ↦ Some 2 | Some t ↦ typed_fault bytes node t r ]) ≡ None → (t : DataType) × (o ≡ Some t) × Passed bytes node t r
-typed_from bytes node r None e = let z : ◌≡◌ {A = ℕ} 0 1 = cc in absurd (omega arith)
+typed_from bytes node r None e = absurd (none-some 2 (sym e))
 typed_from bytes node r (Some t) e = (t, refl, passed_from bytes node t r e)
 
 module _ (bytes : List ℕ) (is-sound : sound bytes ≡ true) where
@@ -66,19 +68,11 @@ module _ (bytes : List ℕ) (is-sound : sound bytes ≡ true) where
 
   -- the records of an image are there
   pub sound_headed : 0 < nodes bytes → Headed bytes
-  sound_headed h =
-      let p = or_parts (ltb (length bytes) 4) (eqb (nodes bytes) 0 || (ltb 256 (nodes bytes) || (ltb (length bytes) (4 + 36 * nodes bytes) || ltb 1073741824 (length bytes)))) (fault_parts h).0 in
-      let q = or_parts (eqb (nodes bytes) 0) (ltb 256 (nodes bytes) || (ltb (length bytes) (4 + 36 * nodes bytes) || ltb 1073741824 (length bytes))) p.1 in
-      let s = or_parts (ltb 256 (nodes bytes)) (ltb (length bytes) (4 + 36 * nodes bytes) || ltb 1073741824 (length bytes)) q.1 in
-      let u = or_parts (ltb (length bytes) (4 + 36 * nodes bytes)) (ltb 1073741824 (length bytes)) s.1 in
-      ltb-false (length bytes) (4 + 36 * nodes bytes) u.0
+  sound_headed h = let parts = (fault_parts h).0 in grind (arith, nat_tests, parts)
 
   -- and there are few
   pub sound_few : 0 < nodes bytes → nodes bytes ≤ 256
-  sound_few h =
-      let p = or_parts (ltb (length bytes) 4) (eqb (nodes bytes) 0 || (ltb 256 (nodes bytes) || (ltb (length bytes) (4 + 36 * nodes bytes) || ltb 1073741824 (length bytes)))) (fault_parts h).0 in
-      let q = or_parts (eqb (nodes bytes) 0) (ltb 256 (nodes bytes) || (ltb (length bytes) (4 + 36 * nodes bytes) || ltb 1073741824 (length bytes))) p.1 in
-      ltb-false 256 (nodes bytes) (or_parts (ltb 256 (nodes bytes)) (ltb (length bytes) (4 + 36 * nodes bytes) || ltb 1073741824 (length bytes)) q.1).0
+  sound_few h = let parts = (fault_parts h).0 in grind (arith, nat_tests, parts)
 
   -- each node has a type, and no rejection applies to it
   pub sound_node : (node : ℕ) → node < nodes bytes → (t : DataType) × (data_type (record_at bytes node) ≡ Some t) × Passed bytes node t (record_at bytes node)

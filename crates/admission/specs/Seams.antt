@@ -1,5 +1,6 @@
 -- What one check may count on since earlier ones have passed.
 use Rattle.std.specs.Prelude.{◌≡◌, ℕ, zero, suc, ◌+◌, ◌*◌, ◌<◌, ◌≤◌, max, true, false, List, length, nat_lt, slice_index}
+use Rattle.std.specs.Coded.{×_prop, Π_prop, Unit-prop, le_prop}
 use Rattle.layout.specs.declared.bytes.Width.{Width}
 use Rattle.layout.specs.declared.record.Record.{Record}
 use Rattle.layout.specs.declared.data_type.DataType.{DataType}
@@ -31,6 +32,24 @@ Linked bytes (ListView w) r = ChildThere bytes r 0
 Linked bytes Map r = ChildThere bytes r 0 × ChildThere bytes r 1
 Linked bytes (FixedSizeList p) r = ChildThere bytes r 0
 Linked bytes (RunEnd w) r = ChildThere bytes r 0
+
+-- which has one proof at most, as a field that keeps it asks
+pub Linked-prop : (bytes : List ℕ) (t : DataType) (r : Record) → IsProp (Linked bytes t r)
+Linked-prop bytes Null r = Unit-prop
+Linked-prop bytes Boolean r = Unit-prop
+Linked-prop bytes (Number w) r = Unit-prop
+Linked-prop bytes (Float w) r = Unit-prop
+Linked-prop bytes (Utf8 w) r = Unit-prop
+Linked-prop bytes (Binary w) r = Unit-prop
+Linked-prop bytes (FixedSizeBinary p) r = Unit-prop
+Linked-prop bytes View r = Π_prop (λ k. Π_prop (λ h. le_prop))
+Linked-prop bytes (Dictionary w signed) r = ×_prop le_prop le_prop
+Linked-prop bytes Struct r = Π_prop (λ k. Π_prop (λ h. ×_prop le_prop le_prop))
+Linked-prop bytes (ListOf w) r = ×_prop le_prop le_prop
+Linked-prop bytes (ListView w) r = ×_prop le_prop le_prop
+Linked-prop bytes Map r = ×_prop (×_prop le_prop le_prop) (×_prop le_prop le_prop)
+Linked-prop bytes (FixedSizeList p) r = ×_prop le_prop le_prop
+Linked-prop bytes (RunEnd w) r = ×_prop le_prop le_prop
 
 -- element k of a buffer can be read
 abbrev pub ElementThere : Width → List ℕ → ℕ → ℕ → Type 0

@@ -2,7 +2,8 @@
 ghost use Rattle.admission.specs.FirstFault.{numbered};
 ghost use Rattle.std.specs.Prelude.{◌≡◌};
 
-// Each case but the first with its node.
+// Each case but the first with its node, one for each number of the format: a struct of a node and a rejection would
+// need its own match for the numbers, and the header's a node that it has not.
 #[derive(Clone, Copy, Debug)]
 pub enum ImageFault {
     Header,
@@ -18,7 +19,7 @@ pub enum ImageFault {
 }
 
 impl ImageFault {
-    // The rejection's number, and its node.
+    // The rejection's number, and its node. No `From`: it names the refusal, and is not made of it.
     pub fn numbered(self) -> (u32, u32)
         ensures { result ≡ numbered self }
     {

@@ -4,8 +4,8 @@
 mod buffers;
 pub mod check;
 pub mod fault;
+mod node;
 mod order;
 mod reach;
 mod table;
-mod test;
 mod views;

@@ -1,111 +1,74 @@
 // Whether offsets and run ends are in order.
-ghost use Rattle.std.specs.Prelude.{◌≡◌, ◌+◌, ◌*◌, ◌<◌, ◌≤◌, false, ◌||◌, length, nat_le, nat_lt};
+ghost use Rattle.std.specs.Prelude.{◌≡◌, ◌+◌, ◌*◌, ◌≤◌, false, ◌||◌, length, nat_le, nat_lt};
 ghost use Rattle.admission.specs.Rejections.{bad_offsets, bad_order, bad_run_ends, bad_values, end_before};
-ghost use Rattle.admission.specs.Seams.{ElementThere, Linked};
+ghost use Rattle.admission.specs.Seams.{ElementThere};
 ghost use Rattle.layout.specs.Bytes.{negative, wide};
 ghost use Rattle.layout.specs.Nodes.{ChildThere, child_rows, element};
 ghost use Rattle.layout.specs.Records.{elements};
 
-use crate::test::{Test, fails_below};
-use layout::bytes::{Width, element_at};
+use crate::node::Node;
+use layout::bytes::Width;
 use layout::data_type::DataType;
-use layout::record::Record;
 
-#[derive(Drop)]
-struct Offsets<'a> {
-    bytes: &'a [u8],
-    width: Width,
-    place: usize,
-    start: u32,
-}
-
-// An offset after the first that is negative or falls.
-impl Test for Offsets<'_> {
-    ghost ready = { λ s k. ElementThere s.width s.bytes.now s.place (s.start + k) × ElementThere s.width s.bytes.now s.place (s.start + k + 1) };
-
-    ghost failing = { λ s k. negative s.width (element s.width s.bytes.now s.place (s.start + k + 1)) || nat_lt (element s.width s.bytes.now s.place (s.start + k + 1)) (element s.width s.bytes.now s.place (s.start + k)) };
-
-    fn fails(&self, index: u32) -> bool {
-        let at = self.start as usize + index as usize;
-        let before = element_at(self.width, self.bytes, self.place, at);
-        let offset = element_at(self.width, self.bytes, self.place, at + 1);
-        self.width.negative(offset) || offset < before
+impl Node<'_> {
+    // An offset after a row's first that is negative or falls.
+    fn is_bad_offset(&self, width: Width, row: u32) -> bool
+        requires { ElementThere width self.now.column.bytes.now self.now.column.record.a (self.now.column.record.start + row + 1) }
+        ensures { let bytes = self.now.column.bytes.now in let r = self.now.column.record in result ≡ (negative width (element width bytes r.a (r.start + row + 1)) || nat_lt (element width bytes r.a (r.start + row + 1)) (element width bytes r.a (r.start + row))) }
+    {
+        let at = self.column.element(row);
+        let before = self.column.number(width, at);
+        let offset = self.column.number(width, at + 1);
+        width.negative(offset) || offset < before
     }
-}
 
-fn is_bad_offsets(width: Width, bytes: &[u8], r: &Record) -> bool
-    requires { r.now.a + wide width * (elements r.now + 1) ≤ length bytes.now }
-    ensures { result ≡ bad_offsets width bytes.now r.now }
-{
-    let place = r.a as usize;
-    width.negative(element_at(width, bytes, place, r.start as usize))
-        || fails_below(
-            &Offsets {
-                bytes,
-                width,
-                place,
-                start: r.start,
-            },
-            r.rows,
-        )
-}
-
-#[derive(Drop)]
-struct RunEnds<'a> {
-    bytes: &'a [u8],
-    width: Width,
-    r: Record,
-}
-
-// A run end that is negative or not above the one before it.
-impl Test for RunEnds<'_> {
-    ghost ready = { λ s k. ElementThere s.width s.bytes.now s.r.a k };
-
-    ghost failing = { λ s k. negative s.width (element s.width s.bytes.now s.r.a k) || nat_le (element s.width s.bytes.now s.r.a k) (end_before s.width s.bytes.now s.r k) };
-
-    fn fails(&self, index: u32) -> bool {
-        let end = element_at(self.width, self.bytes, self.r.a as usize, index as usize);
-        self.width.negative(end) || end <= end_before(self.width, self.bytes, &self.r, index)
+    fn is_bad_offsets(&self, width: Width) -> bool
+        requires { self.now.column.record.a + wide width * (elements self.now.column.record + 1) ≤ length self.now.column.bytes.now }
+        ensures { result ≡ bad_offsets width self.now.column.bytes.now self.now.column.record }
+    {
+        let r = self.column.record;
+        width.negative(self.column.number(width, r.start as usize))
+            || (0..r.rows).any(|row| self.is_bad_offset(width, row))
     }
-}
 
-// The run end before a run, 0 before the first.
-pub(crate) fn end_before(width: Width, bytes: &[u8], r: &Record, run: u32) -> u64
-    requires { r.now.a + wide width * run ≤ length bytes.now }
-    ensures { result ≡ end_before width bytes.now r.now run }
-{
-    if run == 0 {
-        return 0;
+    // The run end before a run, 0 before the first.
+    pub(crate) fn end_before(&self, width: Width, run: u32) -> u64
+        requires { self.now.column.record.a + wide width * run ≤ length self.now.column.bytes.now }
+        ensures { result ≡ end_before width self.now.column.bytes.now self.now.column.record run }
+    {
+        if run == 0 {
+            return 0;
+        }
+        self.column.number(width, run as usize - 1)
     }
-    element_at(width, bytes, r.a as usize, run as usize - 1)
-}
 
-fn is_bad_run_ends(width: Width, bytes: &[u8], r: &Record) -> bool
-    requires child { ChildThere bytes.now r.now 0 }
-    requires inside { r.now.a + wide width * child_rows bytes.now r.now 0 ≤ length bytes.now }
-    ensures { result ≡ bad_run_ends width bytes.now r.now }
-{
-    let runs = r.child_rows(bytes, 0);
-    fails_below(
-        &RunEnds {
-            bytes,
-            width,
-            r: *r,
-        },
-        runs,
-    )
-}
+    // A run end that is negative or not above the one before it.
+    fn is_bad_run_end(&self, width: Width, run: u32) -> bool
+        requires { ElementThere width self.now.column.bytes.now self.now.column.record.a run }
+        ensures { let bytes = self.now.column.bytes.now in let r = self.now.column.record in result ≡ (negative width (element width bytes r.a run) || nat_le (element width bytes r.a run) (end_before width bytes r run)) }
+    {
+        let end = self.column.number(width, run as usize);
+        width.negative(end) || end <= self.end_before(width, run)
+    }
 
-// Offsets or run ends that are out of order.
-pub(crate) fn is_bad_order(bytes: &[u8], data_type: DataType, r: &Record) -> bool
-    requires linked { Linked bytes.now data_type r.now }
-    requires inside { bad_values bytes.now data_type r.now ≡ false }
-    ensures { result ≡ bad_order bytes.now data_type r.now }
-{
-    match data_type {
-        DataType::Utf8(w) | DataType::Binary(w) | DataType::List(w) => is_bad_offsets(w, bytes, r),
-        DataType::Map => is_bad_offsets(Width::Four, bytes, r),
-        DataType::RunEnd(w) => is_bad_run_ends(w, bytes, r),
-        _ => false,
+    fn is_bad_run_ends(&self, width: Width) -> bool
+        requires child { ChildThere self.now.column.bytes.now self.now.column.record 0 }
+        requires inside { self.now.column.record.a + wide width * child_rows self.now.column.bytes.now self.now.column.record 0 ≤ length self.now.column.bytes.now }
+        ensures { result ≡ bad_run_ends width self.now.column.bytes.now self.now.column.record }
+    {
+        (0..self.column.child_rows(0)).any(|run| self.is_bad_run_end(width, run))
+    }
+
+    // Offsets or run ends that are out of order.
+    pub(crate) fn is_bad_order(&self) -> bool
+        requires { bad_values self.now.column.bytes.now self.now.data_type self.now.column.record ≡ false }
+        ensures { result ≡ bad_order self.now.column.bytes.now self.now.data_type self.now.column.record }
+    {
+        match self.data_type {
+            DataType::Utf8(w) | DataType::Binary(w) | DataType::List(w) => self.is_bad_offsets(w),
+            DataType::Map => self.is_bad_offsets(Width::Four),
+            DataType::RunEnd(w) => self.is_bad_run_ends(w),
+            _ => false,
+        }
     }
 }

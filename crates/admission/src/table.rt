@@ -1,11 +1,11 @@
 // Lengths, tables and children.
-ghost use Rattle.std.specs.Prelude.{◌≡◌, ℕ, ◌+◌, ◌*◌, ◌<◌, ◌≤◌, false, ◌||◌, length, nat_le};
+ghost use Rattle.std.specs.Prelude.{◌≡◌, ℕ, ◌+◌, ◌*◌, ◌<◌, ◌≤◌, false, length};
 ghost use Rattle.admission.specs.Rejections.{bad_child, bad_table, outside, too_long};
 ghost use Rattle.admission.specs.Seams.{highest};
 ghost use Rattle.layout.specs.Nodes.{child};
 ghost use Rattle.layout.specs.Records.{nodes};
 
-use crate::test::{Test, fails_below};
+use layout::column::Column;
 use layout::data_type::Table;
 use layout::record::Record;
 
@@ -44,53 +44,24 @@ pub(crate) fn is_bad_table(len: usize, table: Table, r: &Record) -> bool
     }
 }
 
-#[derive(Drop)]
-struct ChildNumbers<'a> {
-    bytes: &'a [u8],
-    r: Record,
-    node: u32,
-    count: u32,
-}
-
-impl Test for ChildNumbers<'_> {
-    ghost ready = { λ s k. s.r.tab + 4 * k + 4 ≤ length s.bytes.now };
-
-    ghost failing = { λ s k. nat_le (child s.bytes.now s.r k) s.node || nat_le s.count (child s.bytes.now s.r k) };
-
-    fn fails(&self, index: u32) -> bool {
-        let child = self.r.child(self.bytes, index);
-        child <= self.node || child >= self.count
-    }
-}
-
 // A child number that is not above the node's own, or not below the node count.
-pub(crate) fn is_bad_child(bytes: &[u8], count: u32, node: u32, table: Table, r: &Record) -> bool
-    requires count { count ≡ nodes bytes.now }
-    requires tabled { bad_table (length bytes.now) table r.now ≡ false }
-    ensures { result ≡ bad_child bytes.now node table r.now }
+pub(crate) fn is_bad_child(column: &Column, count: u32, node: u32, table: Table) -> bool
+    requires count { count ≡ nodes column.now.bytes.now }
+    requires tabled { bad_table (length column.now.bytes.now) table column.now.record ≡ false }
+    ensures { result ≡ bad_child column.now.bytes.now node table column.now.record }
 {
-    fails_below(
-        &ChildNumbers {
-            bytes,
-            r: *r,
-            node,
-            count,
-        },
-        table.listed(r.cnt),
-    )
+    (0..table.listed(column.record.cnt)).any(|index| {
+        let child = column.child(index);
+        child <= node || child >= count
+    })
 }
 
 // The greatest height of a node's children, 0 without children.
-pub(crate) fn highest(bytes: &[u8], heights: &[u8; 256], children: u32, r: &Record) -> u8
-    requires { (k : ℕ) → k < children → (r.now.tab + 4 * k + 4 ≤ length bytes.now) × (child bytes.now r.now k < 256) }
-    ensures { result ≡ highest bytes.now heights.now r.now children }
+pub(crate) fn highest(column: &Column, heights: &[u8; 256], children: u32) -> u8
+    requires { let bytes = column.now.bytes.now in let r = column.now.record in (k : ℕ) → k < children → (r.tab + 4 * k + 4 ≤ length bytes) × (child bytes r k < 256) }
+    ensures { result ≡ highest column.now.bytes.now heights.now column.now.record children }
 {
-    let mut best = 0u8;
-    for index in 0..children {
-        let height = heights[r.child(bytes, index) as usize];
-        if height > best {
-            best = height;
-        }
-    }
-    best
+    (0..children).fold(0, |best: u8, index| {
+        best.max(heights[column.child(index) as usize])
+    })
 }

@@ -12,13 +12,6 @@ use columns::{hash_column, node_need};
 use hash_state::{Fnv1aState, HashState, SipHashState};
 use image::place::Image;
 
-// No list: each word meets the row of its own place.
-fn no_list<'a>() -> Option<&'a [u32]>
-    ensures { result ≡ None }
-{
-    None
-}
-
 // Whether so many entries and words of work are enough for a node.
 fn is_fitting(image: &Image<'_>, node: u64, entries: usize, work: usize) -> bool
     ensures { result ≡ fits image.now.bytes.now node entries work }
@@ -32,7 +25,7 @@ fn is_fitting(image: &Image<'_>, node: u64, entries: usize, work: usize) -> bool
     r.rows as usize <= entries && words as usize <= work
 }
 
-// A node's column, so many times.
+// A node's column, so many times. Parameters go on one by one, as C hands them over.
 fn hash_times<S: HashState>(
     state: &S,
     image: &Image<'_>,
@@ -46,7 +39,7 @@ fn hash_times<S: HashState>(
     ensures { entries.new ≡ repeated times (column_words (S.BuildHasher.one state.now) (S.HashState.seeded state.now) image.now.bytes.now node None first) entries.old }
 {
     for turn in 0..times {
-        hash_column(image, node, no_list(), first, state, entries, work, 0);
+        hash_column(image, node, None, first, state, entries, work, 0);
     }
 }
 
@@ -74,6 +67,7 @@ fn hash_image<S: HashState>(
     true
 }
 
+// Two functions, since C has no generics.
 #[unsafe(no_mangle)]
 pub extern "C" fn rt_fnv_column(
     start: u64,

@@ -1,7 +1,7 @@
 -- The hashes of many rows as one number.
-use Rattle.std.specs.Prelude.{ℕ, zero, suc, bit_xor}
+use Rattle.std.specs.Prelude.{ℕ, bit_xor, map}
+use Rattle.std.specs.List.{fold, range_with_len}
 
 -- The exclusive or of the hashes of the rows below n.
 abbrev pub rows : (ℕ → ℕ) → ℕ → ℕ
-rows hash zero = 0
-rows hash (suc n) = bit_xor (rows hash n) (hash n)
+rows hash n = fold bit_xor 0 (map hash (range_with_len 0 n))

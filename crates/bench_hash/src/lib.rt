@@ -9,19 +9,17 @@ ghost use Rattle.hash_state.specs.Sip.{siphash};
 ghost use Rattle.bench_hash.specs.Rows.{rows};
 
 use hash_state::{
-    Binary, BuildHasher, Float16, Float32, Float64, Fnv1aState, HashState, HashValue, Hasher,
-    Nothing, SipHashState, Text, View, hash_later,
+    Binary, BuildHasher, Float, Fnv1aState, HashState, HashValue, Hasher, Nothing, SipHashState,
+    Text, View, hash_entry,
 };
 
 // The hashes of the words below n, made one by exclusive or.
 fn words<S: BuildHasher>(state: &S, n: u64) -> u64
     ensures { result ≡ rows (λ i. S.BuildHasher.one state.now (number 8 i)) n }
 {
-    let mut all = 0;
-    for i in 0..n {
-        all ^= i.hash_one(state);
-    }
-    all
+    (0..n)
+        .map(|word| word.hash_one(state))
+        .fold(0, |all, word| all ^ word)
 }
 
 // The same of n byte strings, which begin at the places 0 to 63 in turn.
@@ -29,16 +27,18 @@ fn strings<S: BuildHasher>(state: &S, bytes: &[u8; 16384], len: u64, n: u64) -> 
     ensures { result ≡ rows (λ i. S.BuildHasher.one state.now (Bytes (take (min len 16000) (drop (i % 64) bytes.now)) ∷ [])) n }
 {
     let len = len.min(16000) as usize;
-    let mut all = 0;
-    for i in 0..n {
-        let start = (i % 64) as usize;
-        let mut hasher = state.build_hasher();
-        hasher.write(&bytes[start..start + len]);
-        all ^= hasher.finish();
-    }
-    all
+    (0..n)
+        .map(|i| {
+            let start = (i % 64) as usize;
+            let mut hasher = state.build_hasher();
+            hasher.write(&bytes[start..start + len]);
+            hasher.finish()
+        })
+        .fold(0, |all, string| all ^ string)
 }
 
+// Two functions of each sort, since C has no generics, and two numbers for an entry that may not be there, since it has no
+// `Option`.
 #[unsafe(no_mangle)]
 pub extern "C" fn rt_fnv_words(start: u64, n: u64) -> u64
     ensures { result ≡ rows (λ i. fnv1a start (joined (number 8 i))) n }
@@ -67,28 +67,11 @@ pub extern "C" fn rt_sip_strings(k0: u64, k1: u64, bytes: &[u8; 16384], len: u64
     strings(&SipHashState::new(k0, k1), bytes, len, n)
 }
 
-// The hash of a value by itself, or in a later column.
-fn hash_as<S: HashState, V: HashValue>(state: &S, value: &V, later: bool, entry: u64) -> u64 {
-    if later {
-        hash_later(value, state, entry)
-    } else {
-        value.hash_one(state)
-    }
-}
-
-// A view that holds the words, or one of the bytes.
-fn view_of(inline: bool, low: u64, high: u64, bytes: &[u8]) -> View {
-    if inline {
-        return View::Inline(low, high);
-    }
-    View::Long(bytes)
-}
-
-// The hash of a value of a kind that is made of the words: low ones, high ones, or so many of the bytes.
+// The hash of a value that is made of the words: low ones, high ones, or so many of the bytes. The kind is a number,
+// since C calls with it.
 fn hash_kind<S: HashState>(
     state: &S,
-    later: bool,
-    entry: u64,
+    before: Option<u64>,
     kind: u8,
     low: u64,
     high: u64,
@@ -96,18 +79,19 @@ fn hash_kind<S: HashState>(
 ) -> u64 {
     let part = &bytes[0..low.min(16384) as usize];
     match kind {
-        0 => hash_as(state, &(low % 2 == 1), later, entry),
-        1 => hash_as(state, &((low % 256) as u8), later, entry),
-        2 => hash_as(state, &((low % 65536) as u16), later, entry),
-        3 => hash_as(state, &((low % 4294967296) as u32), later, entry),
-        4 => hash_as(state, &low, later, entry),
-        5 => hash_as(state, &Float16((low % 65536) as u16), later, entry),
-        6 => hash_as(state, &Float32((low % 4294967296) as u32), later, entry),
-        7 => hash_as(state, &Float64(low), later, entry),
-        8 => hash_as(state, &Text(part), later, entry),
-        9 => hash_as(state, &Binary(part), later, entry),
-        10 | 11 => hash_as(state, &view_of(kind == 10, low, high, part), later, entry),
-        _ => hash_as(state, &Nothing, later, entry),
+        0 => hash_entry(&(low % 2 == 1), state, before),
+        1 => hash_entry(&((low % 256) as u8), state, before),
+        2 => hash_entry(&((low % 65536) as u16), state, before),
+        3 => hash_entry(&((low % 4294967296) as u32), state, before),
+        4 => hash_entry(&low, state, before),
+        5 => hash_entry(&Float((low % 65536) as u16), state, before),
+        6 => hash_entry(&Float((low % 4294967296) as u32), state, before),
+        7 => hash_entry(&Float(low), state, before),
+        8 => hash_entry(&Text(part), state, before),
+        9 => hash_entry(&Binary(part), state, before),
+        10 => hash_entry(&View::Inline(low, high), state, before),
+        11 => hash_entry(&View::Long(part), state, before),
+        _ => hash_entry(&Nothing, state, before),
     }
 }
 
@@ -123,8 +107,7 @@ pub extern "C" fn rt_fnv_kind(
 ) -> u64 {
     hash_kind(
         &Fnv1aState::from_start(start),
-        later == 1,
-        entry,
+        (later == 1).then_some(entry),
         kind,
         low,
         high,
@@ -145,8 +128,7 @@ pub extern "C" fn rt_sip_kind(
 ) -> u64 {
     hash_kind(
         &SipHashState::new(k0, k1),
-        later == 1,
-        entry,
+        (later == 1).then_some(entry),
         kind,
         low,
         high,

@@ -1,25 +1,23 @@
 -- A column's children, one after the other over one region.
-use Rattle.std.proofs.Common.{◌≡◌, ℕ, zero, suc, ◌+◌, ◌-◌, ◌<◌, ◌≤◌, Bool, true, false, eqb, List, [], ◌∷◌, length, get_or, sym, refl, ap, ◌∙◌, ap₂, subst, add-one, arith}
+use Rattle.std.proofs.Common.{◌≡◌, ℕ, zero, suc, ◌+◌, ◌<◌, ◌≤◌, Bool, true, false, cond, eqb, List, length, get_or, sym, refl, ap, ◌∙◌, add-one, arith}
 use Rattle.std.proofs.lemmas.Bool.{ne_eqb}
-use Rattle.layout.specs.Nodes.{child, child_rows}
-use Rattle.layout.specs.declared.record.Record.{Record}
+use Rattle.layout.specs.Nodes.{child}
 use Rattle.layout.specs.Records.{nodes, record_at}
 use Rattle.admission.specs.FirstFault.{sound}
 use Rattle.hash_state.specs.Writes.{Write}
 use Rattle.image.specs.Read.{slot_at, slot_within, typed_slot}
+use Rattle.image.specs.Slot.{null}
 use Rattle.row_rule.specs.Number.{number_of}
-use Rattle.leaves.specs.Rows.{by_place, is_leaf}
+use Rattle.leaves.specs.Rows.{is_leaf}
 use Rattle.columns.specs.Fold.{entry, is_first, row_number, through}
-use Rattle.columns.specs.Jobs.{Did, kids, need, opened, plan, reach_from, region, type_of}
+use Rattle.columns.specs.Jobs.{Did, kids, need, opened, plan, reach_from, region, row_by, standing}
 use Rattle.columns.specs.Machine.{Fits, complete}
 use Rattle.columns.specs.declared.job.Job.{Job}
 use Rattle.columns.specs.declared.node.Node.{Node}
 use Rattle.columns.proofs.Fitting.{fits, reached}
-use Rattle.columns.proofs.Meaning.{did_then, opened_did}
-use Rattle.columns.proofs.Needed.{region_inside, region_need}
-use Rattle.columns.proofs.Nodes.{node_passed}
+use Rattle.columns.proofs.Meaning.{did_then, leaf_slot, opened_did}
+use Rattle.columns.proofs.Nodes.{at_node, image_of, of_node}
 use Rattle.columns.proofs.Numbers.{column_number, complete_did, typed_within}
-use Rattle.columns.proofs.Reaching.{reach_inside}
 use Rattle.columns.proofs.Typed.{passed}
 
 pub first_is_0 : (s : ℕ) → eqb s 0 ≡ is_first s
@@ -66,48 +64,38 @@ children_more at n m G w w' w'' p q =
       rows = λ i l. both.rows i l ∙ sym (through_more (λ s y. G s i y) m (get_or w (at + i) 0));
     }
 
-module _ (n : Node) where
-  -- a range reaches no further than a child's rows, and takes no more words than the node needs
-  pub node_inside : (lo count : ℕ) → lo + count ≤ n.r.rows → (s : ℕ) → s < kids (type_of n.bytes.now n.number) n.r
-      → reach_from (type_of n.bytes.now n.number) n.bytes.now n.r lo + region (type_of n.bytes.now n.number) n.bytes.now n.r lo count ≤ child_rows n.bytes.now n.r s
-  node_inside lo count rows s h =
-      reach_inside n.bytes.now n.number n.r lo count rows (type_of n.bytes.now n.number) (node_passed n.bytes.now n.sound n.number n.there n.r n.read) s h
+-- a row of a column, by the numbers that its children left in a region
+module _ (ONE : List Write → ℕ) (SEED : ℕ → List Write → ℕ) (n : Node) where
+  leaf_number : (row : ℕ) (first : Bool) (e : ℕ) → is_leaf n.t ≡ true
+      → number_of ONE SEED first e (typed_slot n.t (image_of n) n.column.record (λ _ _. null) row) ≡ number_of ONE SEED first e (slot_at (image_of n) n.number row)
+  leaf_number row first e leaf =
+      ap (number_of ONE SEED first e)
+      (leaf_slot n.t (image_of n) n.column.record (λ _ _. null) (slot_within 15 (image_of n)) row leaf
+      ∙ at_node (λ b t r. typed_slot t (image_of n) r (slot_within 15 (image_of n)) row) n (image_of n) n.number refl refl
+      ∙ sym (typed_within ONE SEED (image_of n) n.sound 15 n.number row n.there))
 
-  pub node_room : (lo count : ℕ) → lo + count ≤ n.r.rows
-      → (region (type_of n.bytes.now n.number) n.bytes.now n.r lo count ≤ need n.bytes.now n.number)
-      × ((s : ℕ) → s < kids (type_of n.bytes.now n.number) n.r
-      → region (type_of n.bytes.now n.number) n.bytes.now n.r lo count + need n.bytes.now (child n.bytes.now n.r s) ≤ need n.bytes.now n.number)
-  node_room lo count =
-      subst (λ (r : Record). lo + count ≤ r.rows
-      → (region (type_of n.bytes.now n.number) n.bytes.now r lo count ≤ need n.bytes.now n.number)
-      × ((s : ℕ) → s < kids (type_of n.bytes.now n.number) r
-      → region (type_of n.bytes.now n.number) n.bytes.now r lo count + need n.bytes.now (child n.bytes.now r s) ≤ need n.bytes.now n.number)) (sym n.read)
-      (λ rows. (region_inside n.bytes.now n.sound n.number lo count n.there rows, λ s h. region_need n.bytes.now n.sound n.number lo count s n.there rows h))
+  nested_number : (lo count row : ℕ) (numbers : List ℕ) (y : ℕ → ℕ) (first : Bool) (e : ℕ)
+      → lo + count ≤ n.column.record.rows → lo ≤ row → row < lo + count → is_leaf n.t ≡ false
+      → ((x : ℕ) → x < region n.t (image_of n) n.column.record lo count
+      → get_or numbers x 0 ≡ through (λ s z. number_of ONE SEED (is_first s) (entry s z) (slot_at (image_of n) (child (image_of n) n.column.record s) (reach_from n.t (image_of n) n.column.record lo + x))) (kids n.t n.column.record) 0 (y x))
+      → row_number n.t (image_of n) n.column.record (standing numbers (reach_from n.t (image_of n) n.column.record lo)) first e row ≡ number_of ONE SEED first e (slot_at (image_of n) n.number row)
+  nested_number lo count row numbers y first e =
+      of_node (λ b t r. lo + count ≤ r.rows → lo ≤ row → row < lo + count → is_leaf t ≡ false
+      → ((x : ℕ) → x < region t b r lo count → get_or numbers x 0 ≡ through (λ s z. number_of ONE SEED (is_first s) (entry s z) (slot_at b (child b r s) (reach_from t b r lo + x))) (kids t r) 0 (y x))
+      → row_number t b r (standing numbers (reach_from t b r lo)) first e row ≡ number_of ONE SEED first e (slot_at b n.number row))
+      n (image_of n) n.number refl refl
+      (column_number ONE SEED (image_of n) n.sound (reached (image_of n) n.sound) n.number lo count row numbers y first e n.there)
 
-  -- a row of a column with children, by the numbers that its children left in a region
-  pub node_number : (ONE : List Write → ℕ) (SEED : ℕ → List Write → ℕ) (lo count row : ℕ) (numbers : List ℕ) (y : ℕ → ℕ) (first : Bool) (e : ℕ)
-      → lo + count ≤ n.r.rows → lo ≤ row → row < lo + count → is_leaf (type_of n.bytes.now n.number) ≡ false
-      → ((x : ℕ) → x < region (type_of n.bytes.now n.number) n.bytes.now n.r lo count
-      → get_or numbers x 0
-      ≡ through (λ s z. number_of ONE SEED (is_first s) (entry s z) (slot_at n.bytes.now (child n.bytes.now n.r s) (reach_from (type_of n.bytes.now n.number) n.bytes.now n.r lo + x))) (kids (type_of n.bytes.now n.number) n.r) 0 (y x))
-      → row_number (type_of n.bytes.now n.number) n.bytes.now n.r (λ q. get_or numbers (q - reach_from (type_of n.bytes.now n.number) n.bytes.now n.r lo) 0) first e row
-      ≡ number_of ONE SEED first e (slot_at n.bytes.now n.number row)
-  node_number ONE SEED lo count row numbers y first e =
-      subst (λ (r : Record). lo + count ≤ r.rows → lo ≤ row → row < lo + count → is_leaf (type_of n.bytes.now n.number) ≡ false
-      → ((x : ℕ) → x < region (type_of n.bytes.now n.number) n.bytes.now r lo count
-      → get_or numbers x 0
-      ≡ through (λ s z. number_of ONE SEED (is_first s) (entry s z) (slot_at n.bytes.now (child n.bytes.now r s) (reach_from (type_of n.bytes.now n.number) n.bytes.now r lo + x))) (kids (type_of n.bytes.now n.number) r) 0 (y x))
-      → row_number (type_of n.bytes.now n.number) n.bytes.now r (λ q. get_or numbers (q - reach_from (type_of n.bytes.now n.number) n.bytes.now r lo) 0) first e row
-      ≡ number_of ONE SEED first e (slot_at n.bytes.now n.number row)) (sym n.read)
-      (column_number ONE SEED n.bytes.now n.sound (reached n.bytes.now n.sound) n.number lo count row numbers y first e n.there)
-
-  -- a slot of a node by its type
-  pub node_slot : (row : ℕ) → typed_slot (type_of n.bytes.now n.number) n.bytes.now n.r (slot_within 15 n.bytes.now) row ≡ slot_at n.bytes.now n.number row
-  node_slot row =
-      ap (λ (r : Record). typed_slot (type_of n.bytes.now n.number) n.bytes.now r (slot_within 15 n.bytes.now) row) n.read
-      ∙ sym (typed_within (λ _. 0) (λ _ _. 0) n.bytes.now n.sound 15 n.number row n.there)
-
--- words by their places, by two rules that agree
-pub by_place_same : (f g : ℕ → ℕ → ℕ) (es : List ℕ) (k : ℕ) → ((j e : ℕ) → j < k + length es → f j e ≡ g j e) → by_place f k es ≡ by_place g k es
-by_place_same f g [] k same = refl
-by_place_same f g (e ∷ es) k same = ap₂ ◌∷◌ (same k e (omega arith)) (by_place_same f g es (k + 1) (λ j x l. same j x (omega arith)))
+  pub node_number : (lo count row : ℕ) (numbers : List ℕ) (y : ℕ → ℕ) (first : Bool) (e : ℕ)
+      → lo + count ≤ n.column.record.rows → lo ≤ row → row < lo + count
+      → ((x : ℕ) → x < region n.t (image_of n) n.column.record lo count
+      → get_or numbers x 0 ≡ through (λ s z. number_of ONE SEED (is_first s) (entry s z) (slot_at (image_of n) (child (image_of n) n.column.record s) (reach_from n.t (image_of n) n.column.record lo + x))) (kids n.t n.column.record) 0 (y x))
+      → row_by ONE SEED (image_of n) n.t n.column.record (standing numbers (reach_from n.t (image_of n) n.column.record lo)) first e row ≡ number_of ONE SEED first e (slot_at (image_of n) n.number row)
+  node_number lo count row numbers y first e rows low high holds = by_leaf (is_leaf n.t) refl
+    where
+      by_leaf : (b : Bool) → is_leaf n.t ≡ b
+          → cond b (number_of ONE SEED first e (typed_slot n.t (image_of n) n.column.record (λ _ _. null) row))
+          (row_number n.t (image_of n) n.column.record (standing numbers (reach_from n.t (image_of n) n.column.record lo)) first e row)
+          ≡ number_of ONE SEED first e (slot_at (image_of n) n.number row)
+      by_leaf true leaf = leaf_number row first e leaf
+      by_leaf false nested = nested_number lo count row numbers y first e rows low high nested holds

@@ -1,4 +1,3 @@
-pub mod AtNode
 pub mod Children
 pub mod Fitting
 pub mod Machine
@@ -8,7 +7,7 @@ pub mod Nodes
 pub mod Numbers
 pub mod Ranges
 pub mod Reaching
+pub mod Meeting
 pub mod Rule
 pub mod Splices
-pub mod There
 pub mod Typed

@@ -13,10 +13,10 @@ use Rattle.image.specs.Slot.{Slot, null}
 use Rattle.row_rule.specs.Number.{combined, number_of}
 use Rattle.columns.specs.Fold.{Uses, combined_all, entry, folded, is_marked, row_number, through}
 use Rattle.leaves.specs.Rows.{is_leaf}
-use Rattle.columns.specs.Jobs.{Did, Fine, each, ended, opened, reach_from, region, row_by, splice, standing, type_of}
+use Rattle.columns.specs.Jobs.{Did, Fine, each, ended, opened, part, reach_from, region, row_by, splice, standing, type_of}
 use Rattle.columns.specs.declared.job.Job.{Job}
 use Rattle.columns.specs.Machine.{turns}
-use Rattle.columns.proofs.Splices.{get_or-each, get_or-splice_below, get_or-splice_in, length-each, length-splice}
+use Rattle.columns.proofs.Splices.{get_or-each, get_or-part, get_or-splice_below, get_or-splice_in, length-each, length-splice}
 
 did_splice : (at n : ℕ) (F : ℕ → ℕ → ℕ) (w ys : List ℕ) → at + n ≤ length w → length ys ≡ n → ((i : ℕ) → i < n → get_or ys i 0 ≡ F i (get_or w (at + i) 0)) → Did at n F w (splice at n w ys)
 did_splice at n F w ys le ly h =
@@ -174,13 +174,15 @@ module _ (ONE : List Write → ℕ) (SEED : ℕ → List Write → ℕ) (bytes :
       from : ℕ
       from = reach_from t bytes r j.lo
 
-      stands : (x : ℕ) → x < region t bytes r j.lo j.n → standing w (j.at + j.n) from (from + x) ≡ v (from + x)
-      stands x l = let e : from + x - from ≡ x = omega arith in ap (λ (m : ℕ). get_or w (j.at + j.n + m) 0) e ∙ holds x l
+      stands : (x : ℕ) → x < region t bytes r j.lo j.n → standing (part (j.at + j.n) (region t bytes r j.lo j.n) w) from (from + x) ≡ v (from + x)
+      stands x l =
+          let e : from + x - from ≡ x = omega arith in
+          ap (λ (m : ℕ). get_or (part (j.at + j.n) (region t bytes r j.lo j.n) w) m 0) e ∙ get_or-part (j.at + j.n) (region t bytes r j.lo j.n) w x l ∙ holds x l
 
       by_leaf : (i : ℕ) → i < j.n → (b : Bool)
           → cond b (number_of ONE SEED j.first (get_or w (j.at + i) 0) (typed_slot t bytes r (λ _ _. null) (j.lo + i)))
-          (row_number t bytes r (standing w (j.at + j.n) from) j.first (get_or w (j.at + i) 0) (j.lo + i))
+          (row_number t bytes r (standing (part (j.at + j.n) (region t bytes r j.lo j.n) w) from) j.first (get_or w (j.at + i) 0) (j.lo + i))
           ≡ cond b (number_of ONE SEED j.first (get_or w (j.at + i) 0) (typed_slot t bytes r (λ _ _. null) (j.lo + i)))
           (row_number t bytes r v j.first (get_or w (j.at + i) 0) (j.lo + i))
       by_leaf i l true = refl
-      by_leaf i l false = row_same j.node j.lo j.n (j.lo + i) (standing w (j.at + j.n) from) v j.first (get_or w (j.at + i) 0) fine.there fine.rows (omega arith) (omega arith) stands
+      by_leaf i l false = row_same j.node j.lo j.n (j.lo + i) (standing (part (j.at + j.n) (region t bytes r j.lo j.n) w) from) v j.first (get_or w (j.at + i) 0) fine.there fine.rows (omega arith) (omega arith) stands

@@ -1,82 +1,122 @@
 -- What a node of a sound image lets the walk read.
-use Rattle.std.proofs.Common.{◌≡◌, ℕ, ◌+◌, ◌*◌, ◌<◌, ◌≤◌, Bool, true, false, ◌&&◌, List, length, Some, Option, sym, ap, ◌∙◌, subst, arith}
+use Rattle.std.proofs.Common.{◌≡◌, ℕ, ◌+◌, ◌*◌, ◌<◌, ◌≤◌, true, false, ◌&&◌, List, length, Some, Option, sym, refl, ap, ◌∙◌, subst, ap₂, arith}
 use Rattle.layout.specs.declared.data_type.DataType.{DataType}
 use Rattle.layout.specs.declared.data_type.DataType.TheVariants.{Null, Boolean, Number, Float, Utf8, Binary, FixedSizeBinary, View, Dictionary, Struct, List as ListOf, ListView, Map, FixedSizeList, RunEnd}
+use Rattle.layout.specs.declared.bytes.Width.{Width}
 use Rattle.layout.specs.declared.record.Record.{Record}
 use Rattle.layout.specs.Nodes.{HoldsBit, child, child_rows, marked, reads_nulls, table}
 use Rattle.layout.specs.Records.{nodes, record_at}
 use Rattle.layout.specs.Types.{data_type}
-use Rattle.admission.specs.FirstFault.{sound}
+use Rattle.layout.specs.Views.{view_place}
+use Rattle.admission.specs.Rejections.{bad_view, bad_views}
 use Rattle.admission.specs.Seams.{Linked}
+use Rattle.admission.proofs.Below.{none_at}
 use Rattle.admission.proofs.Links.{child_behind, linked}
 use Rattle.admission.proofs.Sound.{Passed, sound_headed, sound_read}
-use Rattle.admission.specs.Rejections.{bad_view, bad_views}
-use Rattle.admission.proofs.Below.{none_at}
-use Rattle.layout.specs.Views.{view_place}
-use Rattle.leaves.specs.Rows.{LeafRow, Padded}
+use Rattle.leaves.specs.Rows.{LeafRow, Padded, is_leaf}
 use Rattle.image.proofs.Readable.{bit_there, readable}
-use Rattle.columns.specs.Fold.{is_marked, row_number, typed_mark}
-use Rattle.columns.specs.Jobs.{kids, reach_from, region, type_of}
-use Rattle.columns.specs.Seams.{FoldThere, ReachThere}
-use Rattle.columns.proofs.Fitting.{reached}
-use Rattle.columns.proofs.Meaning.{row_same}
+use Rattle.columns.specs.Fold.{is_marked, typed_mark}
+use Rattle.columns.specs.Jobs.{kids, need, reach_from, region, type_of}
+use Rattle.columns.specs.Seams.{FoldThere, ReachThere, RunsThere}
+use Rattle.columns.specs.declared.node.Node.{Node}
+use Rattle.columns.proofs.Needed.{region_inside, region_need}
 use Rattle.columns.proofs.Ranges.{fold_there, reach_there, short}
-use Rattle.columns.proofs.Typed.{passed, typed}
+use Rattle.columns.proofs.Reaching.{reach_inside}
+use Rattle.columns.proofs.Rule.{Counted}
+use Rattle.columns.proofs.Typed.{counted, passed, typed}
 
-module _ (bytes : List ℕ) (is-sound : sound bytes ≡ true) (number : ℕ) (there : number < nodes bytes) (r : Record) (read : r ≡ record_at bytes number) where
-  pub node_typed : Some (type_of bytes number) ≡ data_type r
-  node_typed = sym (ap data_type read ∙ typed bytes is-sound number there)
+-- the bytes that a node stands in
+abbrev pub image_of : Node → List ℕ
+image_of n = n.column.bytes.now
 
-  pub node_passed : Passed bytes number (type_of bytes number) r
-  node_passed = sound_read bytes is-sound number r (type_of bytes number) there read node_typed
+-- what is said of a node, said of the node of its number
+pub at_node : {X : Type 0} (F : List ℕ → DataType → Record → X) (n : Node) (bytes : List ℕ) (number : ℕ) → image_of n ≡ bytes → n.number ≡ number
+    → F (image_of n) n.t n.column.record ≡ F bytes (type_of bytes number) (record_at bytes number)
+at_node F n bytes number eb ek =
+    ap₂ (F (image_of n)) n.typed n.read ∙ ap₂ (λ (b : List ℕ) (k : ℕ). F b (type_of b k) (record_at b k)) eb ek
 
-  pub node_bit : (row : ℕ) → row < r.rows → reads_nulls (type_of bytes number) ≡ true → HoldsBit bytes r row
-  node_bit row h = bit_there bytes number row r (sound_headed bytes is-sound (omega arith)) h (type_of bytes number) node_passed
+pub of_node : (P : List ℕ → DataType → Record → Type 0) (n : Node) (bytes : List ℕ) (number : ℕ) → image_of n ≡ bytes → n.number ≡ number
+    → P bytes (type_of bytes number) (record_at bytes number) → P (image_of n) n.t n.column.record
+of_node P n bytes number eb ek p =
+    subst (λ (t : DataType). P (image_of n) t n.column.record) (sym n.typed)
+    (subst (P (image_of n) (type_of (image_of n) n.number)) (sym n.read)
+    (subst (λ (k : ℕ). P (image_of n) (type_of (image_of n) k) (record_at (image_of n) k)) (sym ek)
+    (subst (λ (b : List ℕ). P b (type_of b number) (record_at b number)) (sym eb) p)))
 
-  pub node_child : (index : ℕ) → index < kids (type_of bytes number) r
-      → (r.tab + 4 * index + 4 ≤ length bytes) × (child bytes r index < nodes bytes) × (4 + 36 * child bytes r index + 36 ≤ length bytes)
+module _ (n : Node) where
+  pub node_typed : Some n.t ≡ data_type n.column.record
+  node_typed = ap (λ (t : DataType). Some t) n.typed ∙ sym (ap data_type n.read ∙ typed (image_of n) n.sound n.number n.there)
+
+  pub node_passed : Passed (image_of n) n.number n.t n.column.record
+  node_passed = sound_read (image_of n) n.sound n.number n.column.record n.t n.there n.read node_typed
+
+  -- START and ROWS are small
+  pub node_short : (n.column.record.rows ≤ 1048576) × (n.column.record.start ≤ 1048576)
+  node_short = short n.column.record node_passed.short
+
+  pub node_bit : (row : ℕ) → row < n.column.record.rows → reads_nulls n.t ≡ true → HoldsBit (image_of n) n.column.record row
+  node_bit row h = bit_there (image_of n) n.number row n.column.record (sound_headed (image_of n) n.sound (omega (arith, n.there))) h n.t node_passed
+
+  pub node_child : (index : ℕ) → index < kids n.t n.column.record
+      → (n.column.record.tab + 4 * index + 4 ≤ length (image_of n)) × (child (image_of n) n.column.record index < nodes (image_of n)) × (4 + 36 * child (image_of n) n.column.record index + 36 ≤ length (image_of n))
   node_child index h =
-      let behind = child_behind bytes number r (table (type_of bytes number)) node_passed.tabled node_passed.lined index h in
-      (behind.0, behind.2, omega (arith, sound_headed bytes is-sound (omega arith), behind.2))
+      let behind = child_behind (image_of n) n.number n.column.record (table n.t) node_passed.tabled node_passed.lined index h in
+      (behind.0, behind.2, omega (arith, sound_headed (image_of n) n.sound (omega (arith, n.there)), behind.2))
 
   -- a child has few rows, as every node has
-  pub child_few : (index : ℕ) → index < kids (type_of bytes number) r → child_rows bytes r index ≤ 1048576
-  child_few index h = let there' = (node_child index h).1 in (short (record_at bytes (child bytes r index)) (passed bytes is-sound (child bytes r index) there').short).0
+  pub child_few : (index : ℕ) → index < kids n.t n.column.record → child_rows (image_of n) n.column.record index ≤ 1048576
+  child_few index h =
+      let there = (node_child index h).1 in
+      (short (record_at (image_of n) (child (image_of n) n.column.record index)) (passed (image_of n) n.sound (child (image_of n) n.column.record index) there).short).0
 
-  pub node_linked : Linked bytes (type_of bytes number) r
-  node_linked = linked bytes number r (sound_headed bytes is-sound (omega arith)) (type_of bytes number) node_passed.tabled node_passed.lined
+  pub node_linked : Linked (image_of n) n.t n.column.record
+  node_linked = linked (image_of n) n.number n.column.record (sound_headed (image_of n) n.sound (omega (arith, n.there))) n.t node_passed.tabled node_passed.lined
 
-  pub node_reach : (lo n : ℕ) → lo + n ≤ r.rows → ReachThere (type_of bytes number) bytes r lo n
-  node_reach lo n rows = reach_there bytes number r lo n rows (type_of bytes number) node_passed node_linked (child_few 0)
+  pub node_reach : (lo count : ℕ) → lo + count ≤ n.column.record.rows → ReachThere n.t (image_of n) n.column.record lo count
+  node_reach lo count rows = reach_there (image_of n) n.number n.column.record lo count rows n.t node_passed node_linked (child_few 0)
+
+  -- run ends can be searched
+  pub node_runs : (w : Width) → n.t ≡ RunEnd w → RunsThere w (image_of n) n.column.record (n.column.record.start + 0) 0
+  node_runs w e = (subst (λ (t : DataType). ReachThere t (image_of n) n.column.record 0 0) e (node_reach 0 0 (omega arith))).1
 
   -- the mark of a row, as a reference asks for it
-  pub mark_is : (row : ℕ) → (reads_nulls (type_of bytes number) && marked bytes r row) ≡ is_marked bytes number row
+  pub mark_is : (row : ℕ) → (reads_nulls n.t && marked (image_of n) n.column.record row) ≡ is_marked (image_of n) n.number row
   mark_is row =
-      ap (λ (x : Record). reads_nulls (type_of bytes number) && marked bytes x row) read
-      ∙ sym (ap (λ (o : Option DataType). typed_mark o bytes (record_at bytes number) row) (typed bytes is-sound number there))
+      ap₂ (λ (t : DataType) (r : Record). reads_nulls t && marked (image_of n) r row) n.typed n.read
+      ∙ sym (ap (λ (o : Option DataType). typed_mark o (image_of n) (record_at (image_of n) n.number) row) (typed (image_of n) n.sound n.number n.there))
 
   -- an unmarked row of a range can be folded
-  pub node_fold : (lo n row : ℕ) → lo + n ≤ r.rows → lo ≤ row → row < lo + n → (reads_nulls (type_of bytes number) && marked bytes r row) ≡ false
-      → FoldThere (type_of bytes number) bytes r (r.start + row) (reach_from (type_of bytes number) bytes r lo) (region (type_of bytes number) bytes r lo n)
-  node_fold lo n row rows low high m = fold_there bytes number r lo n row rows low high (type_of bytes number) node_passed node_linked (child_few 0) m
+  pub node_fold : (lo count row : ℕ) → lo + count ≤ n.column.record.rows → lo ≤ row → row < lo + count → (reads_nulls n.t && marked (image_of n) n.column.record row) ≡ false
+      → FoldThere n.t (image_of n) n.column.record (n.column.record.start + row) (reach_from n.t (image_of n) n.column.record lo) (region n.t (image_of n) n.column.record lo count)
+  node_fold lo count row rows low high m = fold_there (image_of n) n.number n.column.record lo count row rows low high n.t node_passed node_linked (child_few 0) m
 
-  -- a row's number depends on the numbers of the child rows that its range reaches, and on no others
-  pub node_same : (lo n row : ℕ) (f g : ℕ → ℕ) (first : Bool) (e : ℕ) → lo + n ≤ r.rows → lo ≤ row → row < lo + n
-      → ((x : ℕ) → x < region (type_of bytes number) bytes r lo n → f (reach_from (type_of bytes number) bytes r lo + x) ≡ g (reach_from (type_of bytes number) bytes r lo + x))
-      → row_number (type_of bytes number) bytes r f first e row ≡ row_number (type_of bytes number) bytes r g first e row
-  node_same lo n row f g first e =
-      subst (λ (x : Record). lo + n ≤ x.rows → lo ≤ row → row < lo + n
-      → ((k : ℕ) → k < region (type_of bytes number) bytes x lo n → f (reach_from (type_of bytes number) bytes x lo + k) ≡ g (reach_from (type_of bytes number) bytes x lo + k))
-      → row_number (type_of bytes number) bytes x f first e row ≡ row_number (type_of bytes number) bytes x g first e row)
-      (sym read) (λ rows low high same. row_same (λ _. 0) (λ _ _. 0) bytes (reached bytes is-sound) number lo n row f g first e there rows low high same)
+  -- a range reaches no further than a child's rows, and takes no more words than the node needs
+  pub node_inside : (lo count : ℕ) → lo + count ≤ n.column.record.rows → (s : ℕ) → s < kids n.t n.column.record → reach_from n.t (image_of n) n.column.record lo + region n.t (image_of n) n.column.record lo count ≤ child_rows (image_of n) n.column.record s
+  node_inside lo count rows s h = reach_inside (image_of n) n.number n.column.record lo count rows n.t node_passed s h
+
+  pub node_room : (lo count : ℕ) → lo + count ≤ n.column.record.rows
+      → (region n.t (image_of n) n.column.record lo count ≤ need (image_of n) n.number)
+      × ((s : ℕ) → s < kids n.t n.column.record → region n.t (image_of n) n.column.record lo count + need (image_of n) (child (image_of n) n.column.record s) ≤ need (image_of n) n.number)
+  node_room lo count =
+      of_node (λ b t r. lo + count ≤ r.rows
+      → (region t b r lo count ≤ need (image_of n) n.number)
+      × ((s : ℕ) → s < kids t r → region t b r lo count + need (image_of n) (child b r s) ≤ need (image_of n) n.number))
+      n (image_of n) n.number refl refl
+      (λ rows. (region_inside (image_of n) n.sound n.number lo count n.there rows, λ s h. region_need (image_of n) n.sound n.number lo count s n.there rows h))
+
+  -- a node whose rows refer to others has a child
+  pub refers_to_child : (t : DataType) → n.t ≡ t → is_leaf t ≡ false → (Counted t n.column.record.cnt → 0 < kids t n.column.record) → 0 < kids n.t n.column.record
+  refers_to_child t e l h =
+      subst (λ (s : DataType). 0 < kids s n.column.record) (sym e)
+      (h (subst (λ (s : DataType). Counted s n.column.record.cnt) e (counted (length (image_of n)) n.t n.column.record (ap is_leaf e ∙ l) node_passed.tabled)))
 
   -- a row of a leaf can be read
-  pub node_leaf : (row : ℕ) → row < r.rows → LeafRow bytes (type_of bytes number) r row
+  pub node_leaf : (row : ℕ) → row < n.column.record.rows → LeafRow (image_of n) n.t n.column.record row
   node_leaf row h =
-      let headed = sound_headed bytes is-sound (omega arith) in
-      (node_bit row h, readable bytes number row r headed h (type_of bytes number) node_passed, padded (type_of bytes number) node_passed.padded)
+      let headed = sound_headed (image_of n) n.sound (omega (arith, n.there)) in
+      (node_bit row h, readable (image_of n) n.number row n.column.record headed h n.t node_passed, padded n.t node_passed.padded)
     where
-      padded : (t : DataType) → bad_views bytes t r ≡ false → Padded t bytes r row
+      padded : (t : DataType) → bad_views (image_of n) t n.column.record ≡ false → Padded t (image_of n) n.column.record row
       padded Null e = tt
       padded Boolean e = tt
       padded (Number w) e = tt
@@ -84,7 +124,7 @@ module _ (bytes : List ℕ) (is-sound : sound bytes ≡ true) (number : ℕ) (th
       padded (Utf8 w) e = tt
       padded (Binary w) e = tt
       padded (FixedSizeBinary p) e = tt
-      padded View e = none_at r.rows (λ k. bad_view bytes r k (view_place r k)) row e h
+      padded View e = none_at n.column.record.rows (λ k. bad_view (image_of n) n.column.record k (view_place n.column.record k)) row e h
       padded (Dictionary w signed) e = tt
       padded Struct e = tt
       padded (ListOf w) e = tt

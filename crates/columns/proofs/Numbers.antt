@@ -14,7 +14,7 @@ use Rattle.image.specs.Slot.{Slot, null}
 use Rattle.row_rule.specs.Number.{is_null, number_of}
 use Rattle.columns.specs.Fold.{entry, is_first, is_marked, row_number, through}
 use Rattle.leaves.specs.Rows.{is_leaf}
-use Rattle.columns.specs.Jobs.{Did, Fine, kids, plan, reach_from, region, row_by, type_of}
+use Rattle.columns.specs.Jobs.{Did, Fine, kids, plan, reach_from, region, row_by, standing, type_of}
 use Rattle.columns.specs.declared.job.Job.{Job}
 use Rattle.columns.specs.Machine.{Fits, complete, turns}
 use Rattle.columns.proofs.Meaning.{Reached, did_then, ended_did, leaf_slot, opened_did, row_same, through_start, turns_did}
@@ -106,14 +106,14 @@ module _ (ONE : List Write → ℕ) (SEED : ℕ → List Write → ℕ) (bytes :
         → ((x : ℕ) → x < region (type_of bytes node) bytes (record_at bytes node) lo n
         → get_or numbers x 0
         ≡ through (λ s z. number_of ONE SEED (is_first s) (entry s z) (slot_at bytes (child bytes (record_at bytes node) s) (reach_from (type_of bytes node) bytes (record_at bytes node) lo + x))) (kids (type_of bytes node) (record_at bytes node)) 0 (y x))
-        → row_number (type_of bytes node) bytes (record_at bytes node) (λ q. get_or numbers (q - reach_from (type_of bytes node) bytes (record_at bytes node) lo) 0) first e row
+        → row_number (type_of bytes node) bytes (record_at bytes node) (standing numbers (reach_from (type_of bytes node) bytes (record_at bytes node) lo)) first e row
         ≡ number_of ONE SEED first e (slot_at bytes node row)
     column_number node lo n row numbers y first e there rows low high nested holds =
         let t : DataType = type_of bytes node in
         let r : Record = record_at bytes node in
         let from : ℕ = reach_from t bytes r lo in
         let v : ℕ → ℕ = values ONE SEED t bytes r (slot_within 16 bytes) in
-        row_same ONE SEED bytes reached node lo n row (λ q. get_or numbers (q - from) 0) v first e there rows low high
+        row_same ONE SEED bytes reached node lo n row (standing numbers from) v first e there rows low high
         (λ x l.
         let z : from + x - from ≡ x = omega arith in
         ap (λ (k : ℕ). get_or numbers k 0) z

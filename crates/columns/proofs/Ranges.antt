@@ -14,10 +14,10 @@ use Rattle.admission.specs.Seams.{ElementThere, Linked}
 use Rattle.admission.proofs.Below.{none_at}
 use Rattle.admission.proofs.Reached.{values_passed}
 use Rattle.admission.proofs.Sound.{Passed}
-use Rattle.image.specs.Read.{offset}
+use Rattle.image.specs.Read.{offset, span}
 use Rattle.image.proofs.Readable.{one_inside}
 use Rattle.columns.specs.Jobs.{kids, reach_from, reach_till, region}
-use Rattle.columns.specs.Seams.{FoldThere, OffsetsThere, ReachThere}
+use Rattle.columns.specs.Seams.{FoldThere, OffsetsThere, ReachThere, Within}
 use Rattle.columns.proofs.Reaching.{list_view_there, offset_rises, offsets_inside, region_is, run_rises, run_there, uses_reached}
 use Rattle.columns.proofs.Typed.{exactly}
 
@@ -96,7 +96,7 @@ module _ (bytes : List ℕ) (node : ℕ) (r : Record) (lo n row : ℕ) (rows : l
 
   row_offsets : (t : DataType) (w : Width) (limit : ℕ) → 0 < kids t r → r.a + wide w * (elements r + 1) ≤ length bytes → bad_offsets w bytes r ≡ false → last_offset w bytes r ≤ limit → limit ≤ 1048576
       → reach_from t bytes r lo ≡ offset w bytes r (r.start + lo) → reach_till t bytes r lo n ≡ offset w bytes r (r.start + lo + n)
-      → OffsetsThere w bytes r (r.start + row) 1 × (reach_from t bytes r lo ≤ offset w bytes r (r.start + row)) × (offset w bytes r (r.start + row + 1) ≤ reach_from t bytes r lo + region t bytes r lo n)
+      → OffsetsThere w bytes r (r.start + row) 1 × Within (reach_from t bytes r lo) (region t bytes r lo n) (offset w bytes r (r.start + row)) (span w bytes r (r.start + row))
   row_offsets t w limit some inside ordered last small f g =
       let whole = offsets_there bytes node r row 1 (omega arith) w limit inside ordered last small in
       let a = offset_rises w bytes r ordered lo row low (omega arith) in
@@ -104,7 +104,7 @@ module _ (bytes : List ℕ) (node : ℕ) (r : Record) (lo n row : ℕ) (rows : l
       let c : offset w bytes r (r.start + row + 1) ≤ offset w bytes r (r.start + lo + n) =
       subst (λ (x : ℕ). offset w bytes r (r.start + row + 1) ≤ offset w bytes r x) (omega arith) (subst (λ (x : ℕ). offset w bytes r x ≤ offset w bytes r (r.start + (lo + n))) (omega arith) b) in
       let all = offsets_inside bytes node r lo n rows w limit ordered last in
-      (whole, omega arith, omega (arith, region_is t bytes r lo n some, all.0))
+      (whole, (omega arith, omega (arith, region_is t bytes r lo n some, all.0, whole.2)))
 
   pub fold_there : (t : DataType) → Passed bytes node t r → Linked bytes t r → (0 < kids t r → child_rows bytes r 0 ≤ 1048576) → (reads_nulls t && marked bytes r row) ≡ false
       → FoldThere t bytes r (r.start + row) (reach_from t bytes r lo) (region t bytes r lo n)
@@ -121,13 +121,11 @@ module _ (bytes : List ℕ) (node : ℕ) (r : Record) (lo n row : ℕ) (rows : l
       let used = uses_reached bytes node r lo n row rows low high (Dictionary w signed) p m in
       let few = small (omega arith) in (
         element_there w r.a (ltb-false (length bytes) (r.a + wide w * elements r) (values_passed bytes (Dictionary w signed) r p.inside)),
-        one,
-        used.0,
-        used.1,
         omega (arith, used.1, region_is (Dictionary w signed) bytes r lo n (omega arith)),
-        few,
+        omega arith,
+        (used.0, omega (arith, used.1)),
       )
-  fold_there Struct p l small m = uses_reached bytes node r lo n row rows low high Struct p m
+  fold_there Struct p l small m = λ e. let used = uses_reached bytes node r lo n row rows low high Struct p m e in (used.0, omega (arith, used.1))
   fold_there (ListOf w) p l small m =
       let one = exactly (length bytes) 1 r p.tabled in
       row_offsets (ListOf w) w (child_rows bytes r 0) (omega arith) (ltb-false (length bytes) (r.a + wide w * (elements r + 1)) (values_passed bytes (ListOf w) r p.inside)) p.ordered
@@ -140,8 +138,7 @@ module _ (bytes : List ℕ) (node : ℕ) (r : Record) (lo n row : ℕ) (rows : l
       (element w bytes r.a (r.start + row)) (element w bytes r.b (r.start + row)) (none_at r.rows (bad_list_view bytes w r) row p.reached (omega arith)) m in (
         element_there w r.a (ltb-false (length bytes) (r.a + wide w * elements r) both.0),
         element_there w r.b (ltb-false (length bytes) (r.b + wide w * elements r) both.1),
-        omega arith,
-        omega (arith, region_is (ListView w) bytes r lo n (omega arith)),
+        (omega arith, omega (arith, region_is (ListView w) bytes r lo n (omega arith))),
       )
   fold_there Map p l small m =
       let two = exactly (length bytes) 2 r p.tabled in
@@ -157,9 +154,9 @@ module _ (bytes : List ℕ) (node : ℕ) (r : Record) (lo n row : ℕ) (rows : l
       let c : z * (r.start + row + 1) ≡ z * (r.start + row) + z * 1 = mul-add z (r.start + row) 1 in
       let d : z * (r.start + lo + n) ≤ z * elements r = mul-le-mul_left z (omega arith) in
       let e : z * (r.start + lo) ≤ z * (r.start + lo + n) = mul-le-mul_left z (omega arith) in
-      (a, omega (arith, region_is (FixedSizeList z) bytes r lo n (omega arith)), omega arith)
+      ((a, omega (arith, region_is (FixedSizeList z) bytes r lo n (omega arith))), omega arith)
   fold_there (RunEnd w) p l small m =
       let one = exactly (length bytes) 1 r p.tabled in
       let used = uses_reached bytes node r lo n row rows low high (RunEnd w) p m in
       let here = reach_there bytes node r row 1 (omega arith) (RunEnd w) p l small in
-      (here.1, one, used.0, used.1, run_there w bytes r (r.start + row) p.reached (omega arith))
+      (here.1, run_there w bytes r (r.start + row) p.reached (omega arith), (used.0, omega (arith, used.1)))

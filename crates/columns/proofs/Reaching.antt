@@ -1,6 +1,6 @@
 -- What the rows of a range reach: within the range's region, and within the children.
 use Rattle.std.proofs.Common.{◌≡◌, ℕ, zero, suc, ◌+◌, ◌-◌, ◌*◌, ◌<◌, ◌≤◌, Bool, true, false, cond, not, ◌&&◌, ◌||◌, eqb, ltb, leb, List, length, sym, refl, ap, ◌∙◌, subst, mul-le-mul_left, mul-add, arith}
-use Rattle.std.proofs.lemmas.Bool.{cond-false, cond-true, eq-eqb, leb-false, lt-ltb, ltb-false, ltb-true, ne_eqb, or_parts, true≢false}
+use Rattle.std.proofs.lemmas.Bool.{cond-false, cond-true, eq-eqb, le-ltb, leb-false, lt-ltb, ltb-false, ltb-true, ne_eqb, or_parts, true≢false}
 use Rattle.layout.specs.declared.bytes.Width.{Width}
 use Rattle.layout.specs.declared.bytes.Width.TheVariants.{Four}
 use Rattle.layout.specs.declared.record.Record.{Record}
@@ -242,3 +242,40 @@ ends_rise w bytes r ordered i j h l = rises (element w bytes r.a) j step i h
         let above = leb-false (element w bytes r.a (suc k)) (element w bytes r.a k)
         (or_parts (negative w (element w bytes r.a (suc k))) (leb (element w bytes r.a (suc k)) (element w bytes r.a k)) (none_at (child_rows bytes r 0) bad (suc k) ordered (omega arith))).1 in
         omega arith
+
+-- the first that passes passes, where there is one
+first_passes : (n : ℕ) (test : ℕ → Bool) (k : ℕ) → first_below n test ≡ k → k < n → test k ≡ true
+first_passes zero test k e h = absurd (omega arith)
+first_passes (suc n) test k e h = by_first (test 0) refl k e h (first_passes n (λ i. test (suc i)))
+  where
+    later : ℕ
+    later = first_below n (λ i. test (suc i))
+
+    by_first : (b : Bool) → test 0 ≡ b → (k : ℕ) → cond b 0 (suc later) ≡ k → k < suc n → ((i : ℕ) → later ≡ i → i < n → test (suc i) ≡ true) → test k ≡ true
+    by_first true t zero e h again = t
+    by_first true t (suc k) e h again = absurd (omega arith)
+    by_first false t zero e h again = absurd (omega arith)
+    by_first false t (suc k) e h again = again k (omega arith) (omega arith)
+
+module _ (w : Width) (bytes : List ℕ) (r : Record) (at : ℕ) where
+  -- a run that ends at or before an element is not its run
+  pub ends_before : (k : ℕ) → k < child_rows bytes r 0 → element w bytes r.a k ≤ at → eqb (run_of w bytes r at) k ≡ false
+  ends_before k h l =
+      ne_eqb (run_of w bytes r at) k (λ e.
+      let above = ltb-true at (element w bytes r.a k) (first_passes (child_rows bytes r 0) (λ i. ltb at (element w bytes r.a i)) k e h) in
+      omega arith)
+
+  -- nor is one behind a run that ends after it
+  pub ends_behind : (k p : ℕ) → k < child_rows bytes r 0 → p < k → at < element w bytes r.a p → eqb (run_of w bytes r at) k ≡ false
+  ends_behind k p h l u =
+      ne_eqb (run_of w bytes r at) k (λ e.
+      let up = first_at (child_rows bytes r 0) (λ i. ltb at (element w bytes r.a i)) p (omega arith) (lt-ltb at (element w bytes r.a p) u) in
+      omega arith)
+
+  -- the run of an element: it ends after it, and the one before does not
+  pub ends_here : bad_run_ends w bytes r ≡ false → (k : ℕ) → k < child_rows bytes r 0 → at < element w bytes r.a k → ((p : ℕ) → p + 1 ≡ k → element w bytes r.a p ≤ at)
+      → run_of w bytes r at ≡ k
+  ends_here ordered k h u before =
+      first_is (child_rows bytes r 0) (λ i. ltb at (element w bytes r.a i)) k (omega arith)
+      (λ i l. le-ltb at (element w bytes r.a i) (omega (arith, ends_rise w bytes r ordered i (k - 1) (omega arith) (omega arith), before (k - 1) (omega arith))))
+      (λ _. lt-ltb at (element w bytes r.a k) u)

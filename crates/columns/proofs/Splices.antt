@@ -1,6 +1,5 @@
 -- A part of a list that is replaced.
-use Rattle.std.proofs.Common.{◌≡◌, ℕ, ◌+◌, ◌-◌, ◌<◌, ◌≤◌, min, ◌≢◌, List, ◌++◌, length, get_or, take, drop, set, sym, ap, ◌∙◌, inl, inr, arith, get_or-set_other, get_or-set_same, below_more}
-use Rattle.std.proofs.lemmas.Bool.{cases_lt}
+use Rattle.std.proofs.Common.{◌≡◌, ℕ, ◌+◌, ◌-◌, ◌<◌, ◌≤◌, min, List, ◌++◌, length, get_or, take, drop, sym, ap, ◌∙◌, arith}
 use borrow.Rule.Slice.PartMut.{put_mid}
 use Rattle.std.proofs.lemmas.List.{length-take, length-drop, length-append, drop-drop, get_or-take, get_or-drop, length-take-le, get_or_append_left, get_or-append_right, ext_get_or}
 use Rattle.std.proofs.lemmas.List.FromFn.{length-map-range_with_len, get_or-map-range_with_len}
@@ -25,13 +24,6 @@ get_or-splice_in at n w ys k h e l =
     ∙ ap (λ (x : ℕ). get_or (ys ++ drop (at + n) w) x 0) (omega arith)
     ∙ get_or_append_left ys (drop (at + n) w) 0 k (omega arith)
 
-pub get_or-splice_above : (at n : ℕ) (w ys : List ℕ) (j : ℕ) → at + n ≤ length w → length ys ≡ n → at + n ≤ j → get_or (splice at n w ys) j 0 ≡ get_or w j 0
-get_or-splice_above at n w ys j h e l =
-    get_or-append_right (take at w) (ys ++ drop (at + n) w) at j 0 (length-take-le at w (omega arith)) (omega arith)
-    ∙ get_or-append_right ys (drop (at + n) w) n (j - at) 0 e (omega arith)
-    ∙ get_or-drop (at + n) w (j - at - n) 0
-    ∙ ap (λ (x : ℕ). get_or w x 0) (omega arith)
-
 -- what `&w[at..at + n]` holds
 pub length-lent : (at n : ℕ) (w : List ℕ) → at + n ≤ length w → length (take (at + n - at) (drop at w)) ≡ n
 length-lent at n w h = simp (length-take, length-drop) (omega arith)
@@ -55,42 +47,8 @@ put_mid-splice at n w ys F e =
     let k : at + n - at ≡ n = omega arith in
     ap (λ (x : List ℕ). put_mid at (at + n - at) w x) e ∙ rw (k, drop-drop)
 
--- a loop that writes f i at each place at + i
-abbrev pub Written : ℕ → (ℕ → ℕ) → List ℕ → ℕ → List ℕ → Type 0
-Written at f s₀ i s = ((k : ℕ) → k < i → get_or s (at + k) 0 ≡ f k) × ((j : ℕ) → j < at → get_or s j 0 ≡ get_or s₀ j 0) × ((j : ℕ) → at + i ≤ j → get_or s j 0 ≡ get_or s₀ j 0)
-
-pub written_more : (at : ℕ) (f : ℕ → ℕ) (s₀ s : List ℕ) (i x : ℕ) → at + i < length s → Written at f s₀ i s → x ≡ f i → Written at f s₀ (i + 1) (set s (at + i) x)
-written_more at f s₀ s i x lt h e = (
-  below_more _ _ (λ k l. let ne : at + k ≢ at + i = omega arith in rw get_or-set_other (h.0 k l)) (get_or-set_same s (at + i) x 0 lt ∙ e),
-  (λ j l. let ne : j ≢ at + i = omega arith in rw get_or-set_other (h.1 j l)),
-  (λ j l. let ne : j ≢ at + i = omega arith in rw get_or-set_other (h.2 j (omega arith))),
-)
-
-pub written_all : (at n i : ℕ) → i ≡ n → (f : ℕ → ℕ) (s₀ s ys : List ℕ) → length s ≡ length s₀ → at + n ≤ length s₀ → length ys ≡ n → Written at f s₀ i s → ((k : ℕ) → k < n → f k ≡ get_or ys k 0) → s ≡ splice at n s₀ ys
-written_all at n i ei f s₀ s ys ls le ly h eq = ext_get_or 0 s (splice at n s₀ ys) (ls ∙ sym (length-splice at n s₀ ys le ly)) (λ j l. by_place j)
-  where
-    within : (j : ℕ) → at ≤ j → j < at + n → get_or s j 0 ≡ get_or (splice at n s₀ ys) j 0
-    within j l u =
-        let q : at + (j - at) ≡ j = omega arith in
-        let t = h.0 (j - at) (omega arith) ∙ eq (j - at) (omega arith) ∙ sym (get_or-splice_in at n s₀ ys (j - at) le ly (omega arith)) in
-        rw q at t
-
-    by_place : (j : ℕ) → get_or s j 0 ≡ get_or (splice at n s₀ ys) j 0
-    by_place j = elim (cases_lt j at) [
-      | inl l ↦ h.1 j l ∙ sym (get_or-splice_below at n s₀ ys j le l)
-      | inr m ↦ elim (cases_lt j (at + n)) [
-        | inl u ↦ within j m u
-        | inr v ↦ h.2 j (omega arith) ∙ sym (get_or-splice_above at n s₀ ys j le ly v)
-      ]
-    ]
-
 pub length-each : (f : ℕ → ℕ) (n : ℕ) → length (each f n) ≡ n
 length-each f n = length-map-range_with_len f 0 n
 
 pub get_or-each : (f : ℕ → ℕ) (n k : ℕ) → k < n → get_or (each f n) k 0 ≡ f k
 get_or-each f n k h = get_or-map-range_with_len f 0 n k k 0 h (omega arith)
-
--- a loop that has written f at each place has made the list with each f in its place
-pub each_written : (at n i : ℕ) → i ≡ n → (f g : ℕ → ℕ) (w s : List ℕ) → length s ≡ length w → at + n ≤ length w → Written at f w i s → ((k : ℕ) → k < n → f k ≡ g k) → s ≡ splice at n w (each g n)
-each_written at n i ei f g w s ls le h eq =
-    written_all at n i ei f w s (each g n) ls le (length-each g n) h (λ k l. eq k l ∙ sym (get_or-each g n k l))

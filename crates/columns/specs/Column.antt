@@ -1,11 +1,11 @@
 -- A column as a call meets it: all rows of a node, or the rows of a list.
-use Rattle.std.specs.Prelude.{◌≡◌, ℕ, ◌^◌, ◌<◌, Bool, cond, List, ◌++◌, length, take, drop, Some, None, Option, nat_lt, slice_index}
+use Rattle.std.specs.Prelude.{ℕ, ◌<◌, Bool, cond, List, ◌++◌, length, take, drop, Some, None, Option, nat_lt}
 use Rattle.std.specs.Borrow.{Bor}
 use Rattle.layout.specs.Records.{nodes, record_at}
 use Rattle.hash_state.specs.Writes.{Write}
 use Rattle.image.specs.Read.{slot_at}
 use Rattle.row_rule.specs.Number.{number_of}
-use Rattle.leaves.specs.Rows.{by_place}
+use Rattle.leaves.specs.Rows.{by_place, row_of}
 use Rattle.columns.specs.Jobs.{need}
 
 -- how many words meet a row, of a node of so many rows
@@ -13,18 +13,9 @@ abbrev pub met_rows : ℕ → Option (Bor (List ℕ)) → ℕ
 met_rows rows None = rows
 met_rows rows (Some list) = length list.now
 
--- the row that word j meets
-abbrev pub met_row : Option (Bor (List ℕ)) → ℕ → ℕ
-met_row None j = j
-met_row (Some list) j = slice_index list.now j
-
 -- each row that is met is one of so many
 abbrev pub RowsThere : ℕ → Option (Bor (List ℕ)) → Type 0
-RowsThere rows list = (j : ℕ) → j < met_rows rows list → met_row list j < rows
-
--- n words meet rows of so many
-abbrev pub Meets : ℕ → Option (Bor (List ℕ)) → ℕ → Type 0
-Meets rows list n = (n ≡ met_rows rows list) × RowsThere rows list × (n < 2 ^ 32)
+RowsThere rows list = (j : ℕ) → j < met_rows rows list → row_of 0 list j < rows
 
 -- the words of work that a node needs, where there is such a node
 abbrev pub node_need : List ℕ → ℕ → Option ℕ
@@ -34,4 +25,4 @@ node_need bytes node = cond (nat_lt node (nodes bytes)) (Some (need bytes node))
 abbrev pub column_words : (List Write → ℕ) → (ℕ → List Write → ℕ) → List ℕ → ℕ → Option (Bor (List ℕ)) → Bool → List ℕ → List ℕ
 column_words ONE SEED bytes node list first words =
     let n : ℕ = met_rows (record_at bytes node).rows list in
-    by_place (λ j e. number_of ONE SEED first e (slot_at bytes node (met_row list j))) 0 (take n words) ++ drop n words
+    by_place (λ j e. number_of ONE SEED first e (slot_at bytes node (row_of 0 list j))) 0 (take n words) ++ drop n words

@@ -1,5 +1,5 @@
 -- The walk over a node's rows as jobs: a range of a node's rows, hashed into words of the work.
-use Rattle.std.specs.Prelude.{◌≡◌, ℕ, zero, suc, ◌+◌, ◌-◌, ◌*◌, ◌<◌, ◌≤◌, max, Bool, false, cond, List, ◌++◌, map, length, take, drop, replicate, Some, None, ◌==◌, slice_index}
+use Rattle.std.specs.Prelude.{◌≡◌, ℕ, zero, suc, ◌+◌, ◌-◌, ◌*◌, ◌<◌, ◌≤◌, max, Bool, false, cond, List, ◌++◌, map, length, take, drop, replicate, Some, None, ◌==◌, slice_index, Option}
 use Rattle.std.specs.List.{range_with_len}
 use Rattle.layout.specs.declared.bytes.Width.TheVariants.{Four}
 use Rattle.layout.specs.declared.record.Record.{Record}
@@ -70,8 +70,12 @@ reach_till (FixedSizeList p) bytes r lo n = p * (r.start + lo + n)
 reach_till (RunEnd w) bytes r lo n = cond (n == 0) (run_of w bytes r (r.start + lo)) (run_of w bytes r (r.start + lo + n - 1) + 1)
 
 -- the type of a node, Null where it has none
+abbrev pub or_null : Option DataType → DataType
+or_null None = Null
+or_null (Some t) = t
+
 abbrev pub type_of : List ℕ → ℕ → DataType
-type_of bytes node = elim (data_type (record_at bytes node)) [ None ↦ Null | Some t ↦ t ]
+type_of bytes node = or_null (data_type (record_at bytes node))
 
 -- how many children a node of a type has
 abbrev pub kids : DataType → Record → ℕ
@@ -97,20 +101,17 @@ abbrev pub opened : ℕ → ℕ → ℕ → List ℕ → List ℕ
 opened at n zero words = splice at n words (replicate n 0)
 opened at n (suc s) words = words
 
--- the numbers of child rows, as they stand in the words from a place on, the first for a child row
-abbrev pub standing : List ℕ → ℕ → ℕ → ℕ → ℕ
-standing words at from q = slice_index words (at + (q - from))
+-- the numbers of child rows, as they stand in a region, the first for the child row `from`
+abbrev pub standing : List ℕ → ℕ → ℕ → ℕ
+standing region from q = slice_index region (q - from)
 
--- the job of child s: the child rows that are reached, into the words behind the job's own
+-- the job of n rows of child s from one on, into the words at a place
+abbrev pub child_job : List ℕ → Record → ℕ → ℕ → ℕ → ℕ → Job
+child_job bytes r s lo n at = record { node = child bytes r s; lo = lo; n = n; at = at; first = is_first s }
+
+-- that of the child rows that a job reaches, into the words behind the job's own
 abbrev pub child_at : List ℕ → DataType → Record → Job → ℕ → Job
-child_at bytes t r j s =
-    record {
-      node = child bytes r s;
-      lo = reach_from t bytes r j.lo;
-      n = region t bytes r j.lo j.n;
-      at = j.at + j.n;
-      first = is_first s;
-    }
+child_at bytes t r j s = child_job bytes r s (reach_from t bytes r j.lo) (region t bytes r j.lo j.n) (j.at + j.n)
 
 module _ (ONE : List Write → ℕ) (SEED : ℕ → List Write → ℕ) (bytes : List ℕ) where
   -- a row's number: of a leaf by its slot, else by the numbers of its child rows
@@ -122,7 +123,7 @@ module _ (ONE : List Write → ℕ) (SEED : ℕ → List Write → ℕ) (bytes :
   unfoldable pub ended : DataType → Record → Job → List ℕ → List ℕ
   ended t r j words =
       splice j.at j.n words
-      (each (λ i. row_by t r (standing words (j.at + j.n) (reach_from t bytes r j.lo)) j.first (slice_index words (j.at + i)) (j.lo + i)) j.n)
+      (each (λ i. row_by t r (standing (part (j.at + j.n) (region t bytes r j.lo j.n) words) (reach_from t bytes r j.lo)) j.first (slice_index words (j.at + i)) (j.lo + i)) j.n)
 
   -- a job that can be done with so many words of work
   pub record Fine (len : ℕ) (j : Job) : Type 0 where
@@ -152,14 +153,6 @@ pub record Did (at n : ℕ) (F : ℕ → ℕ → ℕ) (words words' : List ℕ) 
   pub same : length words' ≡ length words
   pub below : (j : ℕ) → j < at → slice_index words' j ≡ slice_index words j
   pub rows : (i : ℕ) → i < n → slice_index words' (at + i) ≡ F i (slice_index words (at + i))
-
--- a job at a node, what it reaches, and room for both
-abbrev pub JobRange : List ℕ → ℕ → Record → Job → ℕ → ℕ → ℕ → Type 0
-JobRange bytes node r j from size len =
-    (j.lo + j.n ≤ r.rows)
-    × (j.at + j.n + size ≤ len)
-    × (from ≡ reach_from (type_of bytes node) bytes r j.lo)
-    × (size ≡ region (type_of bytes node) bytes r j.lo j.n)
 
 -- a child's rows and its need, as a table has it
 abbrev pub needs_of : List ℕ → Record → List ℕ → ℕ → ℕ

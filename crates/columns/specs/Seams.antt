@@ -9,7 +9,11 @@ use Rattle.layout.specs.Bytes.{wide}
 use Rattle.layout.specs.Nodes.{ChildThere, child_rows, element}
 use Rattle.admission.specs.Rejections.{bad_run_ends}
 use Rattle.admission.specs.Seams.{ElementThere}
-use Rattle.image.specs.Read.{offset, run_of}
+use Rattle.image.specs.Read.{offset, run_of, span}
+
+-- `count` child rows from one on have their numbers in a region of so many words, the first for the child row `from`
+abbrev pub Within : ℕ → ℕ → ℕ → ℕ → Type 0
+Within from len start count = (from ≤ start) × (start + count ≤ from + len)
 
 -- two offsets that do not fall
 abbrev pub OffsetsThere : Width → List ℕ → Record → ℕ → ℕ → Type 0
@@ -47,7 +51,7 @@ ReachThere Map bytes r lo n = ((r.cnt == 0) ≡ false) × OffsetsThere Four byte
 ReachThere (FixedSizeList p) bytes r lo n = ((r.cnt == 0) ≡ false) × (r.start + lo + n < 2 ^ 32) × (p * (r.start + lo) + p * n < 2 ^ 32) × (p * (r.start + lo + n) ≡ p * (r.start + lo) + p * n)
 ReachThere (RunEnd w) bytes r lo n = ((r.cnt == 0) ≡ false) × RunsThere w bytes r (r.start + lo) n
 
--- a row can be folded whose child rows' numbers stand in a region of so many words, the first for the child row `from`
+-- an unmarked element can be folded whose child rows' numbers stand in a region of so many words, the first for the child row `from`
 abbrev pub FoldThere : DataType → List ℕ → Record → ℕ → ℕ → ℕ → Type 0
 FoldThere Null bytes r at from len = Unit {0}
 FoldThere Boolean bytes r at from len = Unit {0}
@@ -58,15 +62,11 @@ FoldThere (Binary w) bytes r at from len = Unit {0}
 FoldThere (FixedSizeBinary p) bytes r at from len = Unit {0}
 FoldThere View bytes r at from len = Unit {0}
 FoldThere (Dictionary w signed) bytes r at from len =
-    ElementThere w bytes r.a at × (r.cnt ≡ 1) × (from ≤ element w bytes r.a at) × (element w bytes r.a at < from + len) × (element w bytes r.a at < child_rows bytes r 0) × (child_rows bytes r 0 ≤ 1048576)
-FoldThere Struct bytes r at from len = (r.cnt == 0) ≡ false → (from ≤ at) × (at < from + len)
-FoldThere (ListOf w) bytes r at from len = OffsetsThere w bytes r at 1 × (from ≤ offset w bytes r at) × (offset w bytes r (at + 1) ≤ from + len)
+    ElementThere w bytes r.a at × (element w bytes r.a at < child_rows bytes r 0) × (child_rows bytes r 0 < 2 ^ 32) × Within from len (element w bytes r.a at) 1
+FoldThere Struct bytes r at from len = (r.cnt == 0) ≡ false → Within from len at 1
+FoldThere (ListOf w) bytes r at from len = OffsetsThere w bytes r at 1 × Within from len (offset w bytes r at) (span w bytes r at)
 FoldThere (ListView w) bytes r at from len =
-    ElementThere w bytes r.a at
-    × ElementThere w bytes r.b at
-    × (from ≤ element w bytes r.a at)
-    × (element w bytes r.a at + element w bytes r.b at ≤ from + len)
-FoldThere Map bytes r at from len = OffsetsThere Four bytes r at 1 × (from ≤ offset Four bytes r at) × (offset Four bytes r (at + 1) ≤ from + len)
-FoldThere (FixedSizeList p) bytes r at from len = (from ≤ p * at) × (p * at + p ≤ from + len) × (p * at + p < 2 ^ 32)
-FoldThere (RunEnd w) bytes r at from len =
-    RunsThere w bytes r at 1 × (r.cnt ≡ 1) × (from ≤ run_of w bytes r at) × (run_of w bytes r at < from + len) × (run_of w bytes r at < child_rows bytes r 0)
+    ElementThere w bytes r.a at × ElementThere w bytes r.b at × Within from len (element w bytes r.a at) (element w bytes r.b at)
+FoldThere Map bytes r at from len = OffsetsThere Four bytes r at 1 × Within from len (offset Four bytes r at) (span Four bytes r at)
+FoldThere (FixedSizeList p) bytes r at from len = Within from len (p * at) p × (p * at + p < 2 ^ 32)
+FoldThere (RunEnd w) bytes r at from len = RunsThere w bytes r at 1 × (run_of w bytes r at < child_rows bytes r 0) × Within from len (run_of w bytes r at) 1

@@ -1,188 +1,61 @@
 // The number of every row of a column, in the caller's entries.
-ghost use Rattle.std.specs.Prelude.{◌≡◌, ℕ, ◌+◌, ◌-◌, ◌^◌, ◌<◌, ◌≤◌, true, false, ◌&&◌, length, take, slice_index};
-ghost use Rattle.columns.specs.Column.{Meets, RowsThere, column_words, met_row, met_rows};
-ghost use Rattle.columns.specs.Fold.{entry as entry_of, is_first, row_number, through};
-ghost use Rattle.columns.specs.Seams.{FoldThere};
-ghost use Rattle.columns.specs.Jobs.{Did, kids, need, type_of};
+ghost use Rattle.std.specs.Prelude.{◌≡◌, ℕ, ◌+◌, ◌-◌, ◌^◌, ◌<◌, ◌≤◌, length, take};
+ghost use Rattle.columns.specs.Column.{RowsThere, column_words, met_rows};
+ghost use Rattle.columns.specs.Fold.{entry as entry_of, is_first, through};
+ghost use Rattle.columns.specs.Jobs.{Did, kids, need};
 ghost use Rattle.image.specs.Read.{slot_at};
-ghost use Rattle.layout.specs.Nodes.{child, child_rows, marked, reads_nulls};
+ghost use Rattle.layout.specs.Nodes.{child, child_rows};
 ghost use Rattle.layout.specs.Records.{nodes, record_at};
-ghost use Rattle.leaves.specs.Rows.{by_place, is_leaf};
+ghost use Rattle.leaves.specs.Rows.{by_place, row_of};
 ghost use Rattle.row_rule.specs.Number.{number_of};
 
-use crate::job::Job;
+use crate::met::{Fold, Met};
 use crate::node::Node;
-use crate::walk::{is_leaf, walk};
-use crate::words::open;
+use crate::region::Region;
+use crate::span::Span;
+use crate::walk::{enter, walk};
 use hash_state::HashState;
 use image::place::Image;
-use leaves::hash_leaf;
+use leaves::Rows;
 
-// The rows from the least to the greatest of a list: the first of them, and how many.
-fn bounds(list: &[u32], rows: u32) -> (u32, u32)
-    requires { (j : ℕ) → j < length list.now → slice_index list.now j < rows }
-    ensures within { result.0 + result.1 ≤ rows }
-    ensures met { (j : ℕ) → j < length list.now → (result.0 ≤ slice_index list.now j) × (slice_index list.now j < result.0 + result.1) }
-{
-    let mut lo = rows;
-    let mut till = 0u32;
-    for row in list {
-        lo = lo.min(*row);
-        till = till.max(*row + 1);
-    }
-    if till <= lo {
-        return (0, 0);
-    }
-    (lo, till - lo)
-}
-
-// The rows from the first to the last that is met: the first of them, and how many.
-fn range_met(list: Option<&[u32]>, rows: u32) -> (u32, u32)
-    requires { RowsThere rows list }
-    ensures within { result.0 + result.1 ≤ rows }
-    ensures met { (j : ℕ) → j < met_rows rows list.entry → (result.0 ≤ met_row list.entry j) × (met_row list.entry j < result.0 + result.1) }
-{
-    let Some(list) = list else {
-        return (0, rows);
-    };
-    bounds(list, rows)
-}
-
-// One child over the region at `at`, which is cleared before child 0.
-fn hash_child<S: HashState>(
-    image: &Image<'_>,
-    node: &Node<'_>,
-    stage: u32,
-    from: u32,
-    size: u32,
-    at: usize,
-    state: &S,
-    work: &mut [u64],
-)
-    requires image { node.now.bytes.now ≡ image.now.bytes.now }
-    requires child { stage < kids (type_of node.now.bytes.now node.now.number) node.now.r }
-    requires rows { from + size ≤ child_rows node.now.bytes.now node.now.r stage }
-    requires room { at + size + need node.now.bytes.now (child node.now.bytes.now node.now.r stage) ≤ length work.old }
-    ensures { Did at size (λ i x. number_of (S.BuildHasher.one state.now) (S.HashState.seeded state.now) (is_first stage) (entry_of stage x) (slot_at node.now.bytes.now (child node.now.bytes.now node.now.r stage) (from + i))) work.old work.new }
-{
-    open(work, at, size as usize, stage);
-    let child = node.child(stage);
-    let job = Job {
-        node: child.number,
-        lo: from,
-        n: size,
-        at,
-        first: stage == 0,
-    };
-    walk(image, job, state, work);
-}
-
-// All children in turn, each over the same region.
-fn hash_children<S: HashState>(
-    image: &Image<'_>,
-    node: &Node<'_>,
-    from: u32,
-    size: u32,
-    at: usize,
-    state: &S,
-    work: &mut [u64],
-)
-    requires image { node.now.bytes.now ≡ image.now.bytes.now }
-    requires rows { (s : ℕ) → s < kids (type_of node.now.bytes.now node.now.number) node.now.r → from + size ≤ child_rows node.now.bytes.now node.now.r s }
-    requires room { (s : ℕ) → s < kids (type_of node.now.bytes.now node.now.number) node.now.r → at + size + need node.now.bytes.now (child node.now.bytes.now node.now.r s) ≤ length work.old }
-    ensures { Did at size (λ i x. through (λ s y. number_of (S.BuildHasher.one state.now) (S.HashState.seeded state.now) (is_first s) (entry_of s y) (slot_at node.now.bytes.now (child node.now.bytes.now node.now.r s) (from + i))) (kids (type_of node.now.bytes.now node.now.number) node.now.r) 0 x) work.old work.new }
+// All children in turn, each over the same region at `at`.
+fn hash_children<S: HashState>(node: &Node<'_>, rows: Span, at: usize, state: &S, work: &mut [u64])
+    requires rows { (s : ℕ) → s < kids node.now.t node.now.column.record → rows.from + rows.size ≤ child_rows node.now.column.bytes.now node.now.column.record s }
+    requires room { (s : ℕ) → s < kids node.now.t node.now.column.record → at + rows.size + need node.now.column.bytes.now (child node.now.column.bytes.now node.now.column.record s) ≤ length work.old }
+    ensures { Did at rows.size (λ i x. through (λ s y. number_of (S.BuildHasher.one state.now) (S.HashState.seeded state.now) (is_first s) (entry_of s y) (slot_at node.now.column.bytes.now (child node.now.column.bytes.now node.now.column.record s) (rows.from + i))) (kids node.now.t node.now.column.record) 0 x) work.old work.new }
 {
     for stage in 0..node.kids() {
-        hash_child(image, node, stage, from, size, at, state, work);
+        let job = enter(node, stage, rows, at, work);
+        walk(node, job, state, work);
     }
 }
 
-// The row that word j meets.
-fn row_met(list: Option<&[u32]>, j: usize) -> u32
-    requires { j < met_rows (2 ^ 32) list }
-    ensures { result ≡ met_row list.entry j }
-{
-    let Some(list) = list else {
-        return j as u32;
-    };
-    list[j]
-}
-
-// Folds a region into words that meet rows of a node.
-fn fold_entries(
-    node: &Node<'_>,
-    list: Option<&[u32]>,
-    region: &[u64],
-    from: u32,
-    first: bool,
-    entries: &mut [u64],
-)
-    requires rows { Meets node.now.r.rows list (length entries.old) }
-    requires reached { (j : ℕ) → j < length entries.old → (reads_nulls (type_of node.now.bytes.now node.now.number) && marked node.now.bytes.now node.now.r (met_row list j)) ≡ false → FoldThere (type_of node.now.bytes.now node.now.number) node.now.bytes.now node.now.r (node.now.r.start + met_row list j) from (length region.now) }
-    ensures { entries.new ≡ by_place (λ j e. row_number (type_of node.now.bytes.now node.now.number) node.now.bytes.now node.now.r (λ q. slice_index region.now (q - from)) first e (met_row list.entry j)) 0 entries.old }
-{
-    for j in 0..entries.len() {
-        let row = row_met(list, j);
-        entries[j] = node.fold_row(row, region, from, first, entries[j]);
-    }
-}
-
-// Words that meet rows of a node with children.
-fn hash_nested<S: HashState>(
-    image: &Image<'_>,
-    node: &Node<'_>,
-    list: Option<&[u32]>,
-    first: bool,
+// Each word that meets a row by the row rule; the children's numbers come in the work from `at` on. The place goes beside
+// the work since the jobs of the walk have their places in it.
+fn hash_rows<S: HashState>(
+    met: Met<'_, '_>,
     state: &S,
     entries: &mut [u64],
     work: &mut [u64],
     at: usize,
 )
-    requires image { node.now.bytes.now ≡ image.now.bytes.now }
-    requires nested { is_leaf (type_of node.now.bytes.now node.now.number) ≡ false }
-    requires rows { Meets node.now.r.rows list (length entries.old) }
-    requires room { at + need node.now.bytes.now node.now.number ≤ length work.old }
-    ensures words { entries.new ≡ by_place (λ j e. number_of (S.BuildHasher.one state.now) (S.HashState.seeded state.now) first e (slot_at node.now.bytes.now node.now.number (met_row list.entry j))) 0 entries.old }
+    requires words { length entries.old ≡ met.n }
+    requires room { at + need met.node.column.bytes.now met.node.number ≤ length work.old }
+    ensures words { entries.new ≡ by_place (λ j e. number_of (S.BuildHasher.one state.now) (S.HashState.seeded state.now) met.entry.first e (slot_at met.entry.node.column.bytes.now met.entry.node.number (row_of met.entry.rows.lo met.entry.rows.list j))) 0 entries.old }
     ensures below { take at work.new ≡ take at work.old }
 {
-    let (lo, n) = range_met(list, node.r.rows);
-    let (from, size) = node.reach(lo, n);
-    hash_children(image, node, from, size, at, state, work);
-    fold_entries(
-        node,
-        list,
-        &work[at..at + size as usize],
-        from,
-        first,
-        entries,
-    );
+    let span = met.span();
+    let reach = met.node.reach(span);
+    hash_children(&met.node, reach, at, state, work);
+    let region = Region {
+        numbers: &work[at..at + reach.size as usize],
+        from: reach.from as usize,
+    };
+    let fold = Fold { met, span, region };
+    fold.hash(state, entries);
 }
 
-// Words that meet rows of a leaf.
-fn hash_leaves<S: HashState>(
-    node: &Node<'_>,
-    list: Option<&[u32]>,
-    first: bool,
-    state: &S,
-    entries: &mut [u64],
-)
-    requires leaf { is_leaf (type_of node.now.bytes.now node.now.number) ≡ true }
-    requires rows { Meets node.now.r.rows list (length entries.old) }
-    ensures { entries.new ≡ by_place (λ j e. number_of (S.BuildHasher.one state.now) (S.HashState.seeded state.now) first e (slot_at node.now.bytes.now node.now.number (met_row list.entry j))) 0 entries.old }
-{
-    hash_leaf(
-        node.bytes,
-        node.data_type(),
-        &node.r,
-        0,
-        list,
-        state,
-        entries,
-        first,
-    );
-}
-
-// How many words meet a row.
+// How many words meet a row. The list is taken apart by `let .. else`, as all lists of rows are.
 fn rows_met(list: Option<&[u32]>, rows: u32) -> usize
     ensures { result ≡ met_rows rows list.entry }
 {
@@ -190,30 +63,6 @@ fn rows_met(list: Option<&[u32]>, rows: u32) -> usize
         return rows as usize;
     };
     list.len()
-}
-
-// Each word that meets a row, one of a list or that of its own place, by the row rule.
-fn hash_rows<S: HashState>(
-    image: &Image<'_>,
-    node: &Node<'_>,
-    list: Option<&[u32]>,
-    first: bool,
-    state: &S,
-    entries: &mut [u64],
-    work: &mut [u64],
-    at: usize,
-)
-    requires image { node.now.bytes.now ≡ image.now.bytes.now }
-    requires rows { Meets node.now.r.rows list (length entries.old) }
-    requires room { at + need node.now.bytes.now node.now.number ≤ length work.old }
-    ensures words { entries.new ≡ by_place (λ j e. number_of (S.BuildHasher.one state.now) (S.HashState.seeded state.now) first e (slot_at node.now.bytes.now node.now.number (met_row list.entry j))) 0 entries.old }
-    ensures below { take at work.new ≡ take at work.old }
-{
-    if is_leaf(node.data_type()) {
-        hash_leaves(node, list, first, state, entries);
-    } else {
-        hash_nested(image, node, list, first, state, entries, work, at);
-    }
 }
 
 // The number of every row of a column: in the entries, one after the other from the front, from the words that were
@@ -237,16 +86,13 @@ pub fn hash_column<S: HashState>(
     ensures work { take claimed work.new ≡ take claimed work.old }
 {
     let node = Node::of(image, number);
-    let rows = rows_met(list, node.r.rows);
+    let rows = rows_met(list, node.column.record.rows);
     let at = claimed.min(work.len());
-    hash_rows(
-        image,
-        &node,
-        list,
+    let met = Met {
+        node,
+        rows: Rows { lo: 0, list },
+        n: rows as u32,
         first,
-        state,
-        &mut entries[0..rows],
-        work,
-        at,
-    );
+    };
+    hash_rows(met, state, &mut entries[0..rows], work, at);
 }

@@ -1,33 +1,92 @@
-// The folds of child rows' numbers into a row's entry.
-ghost use Rattle.std.specs.Prelude.{◌≡◌, ◌+◌, ◌-◌, ◌^◌, ◌<◌, ◌≤◌, Bool, false, cond, ◌&&◌, length, slice_index};
-ghost use Rattle.columns.specs.Fold.{combined_all, folded, referred, refers, row_number};
-ghost use Rattle.columns.specs.Jobs.{kids, type_of};
-ghost use Rattle.layout.specs.Nodes.{child_rows, marked, reads_nulls};
-ghost use Rattle.columns.specs.Seams.{FoldThere, OffsetsThere};
-ghost use Rattle.image.specs.Read.{offset, span};
+// The folds of child rows' numbers into an entry: each `hash_..` function is the body of the loop in the Rust's function of
+// its name, for one element that is not marked null. What each takes differs, so the parameters go on one by one.
+ghost use Rattle.std.specs.Prelude.{◌≡◌, ◌+◌, ◌*◌, ◌^◌, ◌<◌, ◌≤◌, false, cond, length, if◌then◌else◌, ◌==◌, nat_eq};
+ghost use Rattle.admission.specs.Seams.{ElementThere};
+ghost use Rattle.columns.specs.Fold.{combined_all, referred};
+ghost use Rattle.columns.specs.Jobs.{kids, standing};
+ghost use Rattle.columns.specs.Seams.{OffsetsThere, RunsThere, Within};
+ghost use Rattle.hash_state.specs.Combine.{C};
+ghost use Rattle.image.specs.Read.{offset, run_of, span};
+ghost use Rattle.layout.specs.Nodes.{child, child_rows, element};
+ghost use Rattle.layout.specs.declared.bytes.Width.TheVariants.{Four};
 ghost use Rattle.row_rule.specs.Number.{combined};
 
 use crate::node::Node;
-use crate::reach::run_of;
+use crate::region::Region;
+use crate::runs::Runs;
 use hash_state::combine_hashes;
 use layout::bytes::{Width, element_at};
-use layout::data_type::DataType;
-use layout::record::Record;
+use layout::column::Column;
+use std::cell::Cell;
 
-// Combines the numbers of `count` child rows from one on, of which the region has the first at `from`.
-fn combine_all(region: &[u64], from: u64, start: u64, count: u64, initial: u64) -> u64
-    requires { (from ≤ start) × (start + count ≤ from + length region.now) }
-    ensures { result ≡ combined_all (λ q. slice_index region.now (q - from)) initial start count }
+// The number that the fields came to, 0 without fields.
+pub(crate) fn hash_struct_array(column: &Column<'_>, at: usize, region: Region<'_>, e: u64) -> u64
+    requires { (column.now.record.cnt == 0) ≡ false → Within region.from (length region.numbers.now) at 1 }
+    ensures { result ≡ C e (if nat_eq column.now.record.cnt 0 then 0 else standing region.entry.numbers.now region.entry.from at) }
 {
-    let mut e = initial;
-    let first = (start - from) as usize;
-    for index in first..first + count as usize {
-        e = combine_hashes(e, region[index]);
+    if column.record.cnt == 0 {
+        return combine_hashes(e, 0);
     }
-    e
+    combine_hashes(e, region.number(at))
 }
 
-// A reference to a child row with a number: the entry where that row is marked null.
+// The child rows between the element's offset and the next.
+pub(crate) fn hash_list_array(
+    column: &Column<'_>,
+    width: Width,
+    at: usize,
+    region: Region<'_>,
+    e: u64,
+) -> u64
+    requires there { OffsetsThere width column.now.bytes.now column.now.record at 1 }
+    requires reached { Within region.from (length region.numbers.now) (offset width column.now.bytes.now column.now.record at) (span width column.now.bytes.now column.now.record at) }
+    requires small { at < 2 ^ 32 }
+    ensures { result ≡ combined_all (standing region.entry.numbers.now region.entry.from) e (offset width column.now.bytes.now column.now.record at) (span width column.now.bytes.now column.now.record at) }
+{
+    let start = column.number(width, at);
+    let end = column.number(width, at + 1);
+    region.combine(start, end - start, e)
+}
+
+// The same over entries of keys with values; a map's offsets have 4 bytes.
+pub(crate) fn hash_map_array(column: &Column<'_>, at: usize, region: Region<'_>, e: u64) -> u64
+    requires there { OffsetsThere Four column.now.bytes.now column.now.record at 1 }
+    requires reached { Within region.from (length region.numbers.now) (offset Four column.now.bytes.now column.now.record at) (span Four column.now.bytes.now column.now.record at) }
+    requires small { at < 2 ^ 32 }
+    ensures { result ≡ combined_all (standing region.entry.numbers.now region.entry.from) e (offset Four column.now.bytes.now column.now.record at) (span Four column.now.bytes.now column.now.record at) }
+{
+    hash_list_array(column, Width::Four, at, region, e)
+}
+
+// As many child rows as the size says, from the offset on.
+pub(crate) fn hash_list_view_array(
+    column: &Column<'_>,
+    width: Width,
+    at: usize,
+    region: Region<'_>,
+    e: u64,
+) -> u64
+    requires there { (ElementThere width column.now.bytes.now column.now.record.a at) × (ElementThere width column.now.bytes.now column.now.record.b at) }
+    requires reached { Within region.from (length region.numbers.now) (element width column.now.bytes.now column.now.record.a at) (element width column.now.bytes.now column.now.record.b at) }
+    ensures { result ≡ combined_all (standing region.entry.numbers.now region.entry.from) e (element width column.now.bytes.now column.now.record.a at) (element width column.now.bytes.now column.now.record.b at) }
+{
+    let start = column.number(width, at);
+    // sizes are in the buffer at B, which no other kind reads as numbers
+    let size = element_at(width, column.bytes, column.record.b as usize, at);
+    region.combine(start, size, e)
+}
+
+// The element's share of the child rows.
+pub(crate) fn hash_fixed_list_array(size: u32, at: usize, region: Region<'_>, e: u64) -> u64
+    requires reached { Within region.from (length region.numbers.now) (size * at) size }
+    requires small { size * at + size < 2 ^ 32 }
+    ensures { result ≡ combined_all (standing region.entry.numbers.now region.entry.from) e (size * at) size }
+{
+    region.combine(size as u64 * at as u64, size as u64, e)
+}
+
+// A reference to a child row with a number; one that is marked null leaves the entry. Apart from its caller, so that the
+// three cases are one equality.
 fn refer(marked: bool, number: u64, first: bool, entry: u64) -> u64
     ensures { result ≡ cond marked «entry» (combined first «entry» number) }
 {
@@ -40,100 +99,70 @@ fn refer(marked: bool, number: u64, first: bool, entry: u64) -> u64
     }
 }
 
-// The fold of an unmarked row of a struct, a list, a list view, a map or a fixed-size list.
-fn fold_elements(
-    bytes: &[u8],
-    t: DataType,
-    r: &Record,
-    at: u64,
-    region: &[u64],
-    from: u64,
-    e: u64,
-) -> u64
-    requires there { FoldThere t bytes.now r.now at from (length region.now) }
-    requires small { (at < 2 ^ 32) × ((from < 2 ^ 32) × (refers t ≡ false)) }
-    ensures { (first : Bool) → result ≡ folded t bytes.now r.now (λ q. slice_index region.now (q - from)) first e at }
-{
-    match t {
-        DataType::Struct => {
-            let number = if r.cnt == 0 {
-                0
-            } else {
-                region[(at - from) as usize]
-            };
-            combine_hashes(e, number)
-        }
-        DataType::List(w) => hash_offsets(w, bytes, r, at, region, from, e),
-        DataType::Map => hash_offsets(Width::Four, bytes, r, at, region, from, e),
-        DataType::ListView(w) => {
-            let start = element_at(w, bytes, r.a as usize, at as usize);
-            let count = element_at(w, bytes, r.b as usize, at as usize);
-            combine_all(region, from, start, count, e)
-        }
-        DataType::FixedSizeList(size) => {
-            combine_all(region, from, u64::from(size) * at, u64::from(size), e)
-        }
-        _ => e,
+// A column whose rows refer to rows of its one child.
+#[derive(Clone, Copy)]
+pub(crate) struct References<'a> {
+    pub column: Column<'a>,
+    pub values: Node<'a>,
+    ghost same: { values.column.bytes.now ≡ column.bytes.now },
+    ghost child: { values.number ≡ child column.bytes.now column.record 0 },
+}
+
+impl<'a> References<'a> {
+    pub(crate) fn of(node: &Node<'a>) -> References<'a>
+        requires { 0 < kids node.now.t node.now.column.record }
+        ensures { result.column ≡ node.now.column }
+    {
+        let column = node.column;
+        let values = node.child(0);
+        References { column, values }
+    }
+
+    // The number of a row that refers to a child row.
+    fn refer_to(&self, row: u32, region: Region<'_>, first: bool, e: u64) -> u64
+        requires row { row < child_rows self.now.column.bytes.now self.now.column.record 0 }
+        requires reached { Within region.from (length region.numbers.now) row 1 }
+        ensures { result ≡ referred self.now.column.bytes.now self.now.column.record (standing region.entry.numbers.now region.entry.from) first e row }
+    {
+        let number = region.number(row as usize);
+        refer(self.values.is_marked(row), number, first, e)
     }
 }
 
-// The child rows between a row's offset and the next.
-fn hash_offsets(
+// The child row that the key names.
+pub(crate) fn hash_dictionary(
+    rows: &References<'_>,
     width: Width,
-    bytes: &[u8],
-    r: &Record,
-    at: u64,
-    region: &[u64],
-    from: u64,
+    at: usize,
+    region: Region<'_>,
+    first: bool,
     e: u64,
 ) -> u64
-    requires there { OffsetsThere width bytes.now r.now at 1 }
-    requires reached { (from ≤ offset width bytes.now r.now at) × (offset width bytes.now r.now (at + 1) ≤ from + length region.now) }
-    requires small { at < 2 ^ 32 }
-    ensures { result ≡ combined_all (λ q. slice_index region.now (q - from)) e (offset width bytes.now r.now at) (span width bytes.now r.now at) }
+    requires there { ElementThere width rows.now.column.bytes.now rows.now.column.record.a at }
+    requires key { (element width rows.now.column.bytes.now rows.now.column.record.a at < child_rows rows.now.column.bytes.now rows.now.column.record 0) × (child_rows rows.now.column.bytes.now rows.now.column.record 0 < 2 ^ 32) }
+    requires reached { Within region.from (length region.numbers.now) (element width rows.now.column.bytes.now rows.now.column.record.a at) 1 }
+    ensures { result ≡ referred rows.now.column.bytes.now rows.now.column.record (standing region.entry.numbers.now region.entry.from) first e (element width rows.now.column.bytes.now rows.now.column.record.a at) }
 {
-    let start = element_at(width, bytes, r.a as usize, at as usize);
-    let end = element_at(width, bytes, r.a as usize, at as usize + 1);
-    combine_all(region, from, start, end - start, e)
+    let key = rows.column.number(width, at);
+    rows.refer_to(key as u32, region, first, e)
 }
 
-impl Node<'_> {
-    // The entry of a row that refers to a row of child 0.
-    fn refer_to(&self, row: u32, region: &[u64], from: u64, first: bool, e: u64) -> u64
-        requires child { 0 < kids (type_of self.now.bytes.now self.now.number) self.now.r }
-        requires row { row < child_rows self.now.bytes.now self.now.r 0 }
-        requires reached { (from ≤ row) × (row < from + length region.now) }
-        ensures { result ≡ referred self.now.bytes.now self.now.r (λ q. slice_index region.now (q - from)) first e row }
-    {
-        let child = self.child(0);
-        let number = region[(row as u64 - from) as usize];
-        refer(child.is_marked(row), number, first, e)
-    }
-}
-
-impl Node<'_> {
-    // The number of a row, from its entry and the numbers of the child rows that it reaches.
-    pub(crate) fn fold_row(&self, row: u32, region: &[u64], from: u32, first: bool, e: u64) -> u64
-        requires row { row < self.now.r.rows }
-        requires there { (reads_nulls (type_of self.now.bytes.now self.now.number) && marked self.now.bytes.now self.now.r row) ≡ false → FoldThere (type_of self.now.bytes.now self.now.number) self.now.bytes.now self.now.r (self.now.r.start + row) from (length region.now) }
-        ensures { result ≡ row_number (type_of self.now.bytes.now self.now.number) self.now.bytes.now self.now.r (λ q. slice_index region.now (q - from)) first e row }
-    {
-        if self.is_marked(row) {
-            return e;
-        }
-        let at = self.r.start as u64 + row as u64;
-        let from = from as u64;
-        match self.data_type() {
-            DataType::Dictionary(w, _) => {
-                let key = element_at(w, self.bytes, self.r.a as usize, at as usize);
-                self.refer_to(key as u32, region, from, first, e)
-            }
-            DataType::RunEnd(w) => {
-                let runs = self.r.child_rows(self.bytes, 0);
-                let run = run_of(w, self.bytes, &self.r, runs, at);
-                self.refer_to(run, region, from, first, e)
-            }
-            t => fold_elements(self.bytes, t, &self.r, at, region, from, e),
-        }
-    }
+// The run that covers the element; it is looked for first where the row before had its own.
+pub(crate) fn hash_run_array(
+    rows: &References<'_>,
+    runs: &Runs<'_>,
+    before: &Cell<u32>,
+    at: usize,
+    region: Region<'_>,
+    first: bool,
+    e: u64,
+) -> u64
+    requires same { runs.now.column ≡ rows.now.column }
+    requires run { run_of runs.now.width rows.now.column.bytes.now rows.now.column.record at < child_rows rows.now.column.bytes.now rows.now.column.record 0 }
+    requires reached { Within region.from (length region.numbers.now) (run_of runs.now.width rows.now.column.bytes.now rows.now.column.record at) 1 }
+    ensures { result ≡ referred rows.now.column.bytes.now rows.now.column.record (standing region.entry.numbers.now region.entry.from) first e (run_of runs.now.width rows.now.column.bytes.now rows.now.column.record at) }
+{
+    let run = runs.near(at as u64, before.get());
+    before.set(run);
+    rows.refer_to(run, region, first, e)
 }

@@ -1,4 +1,7 @@
 // Jobs of the walk.
+ghost use Rattle.std.specs.Prelude.{◌≡◌};
+
+use crate::span::Span;
 
 // Rows of a node, from `lo` on, hashed into the `n` words of the work at `at`.
 #[derive(Clone, Copy)]
@@ -8,6 +11,19 @@ pub struct Job {
     pub n: u32,
     pub at: usize,
     pub first: bool,
+}
+
+impl Job {
+    // The rows that it hashes.
+    pub(crate) fn rows(self) -> Span
+        ensures from { result.from ≡ self.lo }
+        ensures size { result.size ≡ self.n }
+    {
+        Span {
+            from: self.lo,
+            size: self.n,
+        }
+    }
 }
 
 // A job whose first `stage` children are done.

@@ -4,10 +4,14 @@
 mod column;
 mod fold;
 pub mod job;
+mod met;
 mod needs;
+mod nested;
 pub mod node;
 mod reach;
-mod rows;
+mod region;
+mod runs;
+mod span;
 mod walk;
 mod words;
 

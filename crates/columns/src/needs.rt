@@ -1,7 +1,7 @@
 // How many words of work a node needs.
 ghost use Rattle.std.specs.Prelude.{◌≡◌, ℕ, ◌+◌, ◌<◌, ◌≤◌, slice_index};
 ghost use Rattle.columns.specs.Column.{node_need};
-ghost use Rattle.columns.specs.Jobs.{kids, most, need, needs_of, type_of};
+ghost use Rattle.columns.specs.Jobs.{kids, most, need, needs_of};
 ghost use Rattle.layout.specs.Nodes.{child, child_rows};
 ghost use Rattle.layout.specs.Records.{nodes};
 
@@ -10,22 +10,19 @@ use image::place::Image;
 
 // The most of a child's rows and its need, as the table has them.
 fn need_of(node: &Node<'_>, needs: &[u32; 256]) -> u32
-    requires { (k : ℕ) → k < kids (type_of node.now.bytes.now node.now.number) node.now.r → (child node.now.bytes.now node.now.r k < 256) × (slice_index needs.now (child node.now.bytes.now node.now.r k) ≤ 16777216) }
-    ensures { result ≡ most (needs_of node.now.bytes.now node.now.r needs.now) (kids (type_of node.now.bytes.now node.now.number) node.now.r) }
+    requires { (k : ℕ) → k < kids node.now.t node.now.column.record → (child node.now.column.bytes.now node.now.column.record k < 256) × (slice_index needs.now (child node.now.column.bytes.now node.now.column.record k) ≤ 16777216) }
+    ensures { result ≡ most (needs_of node.now.column.bytes.now node.now.column.record needs.now) (kids node.now.t node.now.column.record) }
 {
     let mut most = 0u32;
     for index in 0..node.kids() {
         let child = node.child(index);
-        let need = child.r.rows + needs[child.number as usize];
-        if need > most {
-            most = need;
-        }
+        most = most.max(child.column.record.rows + needs[child.number as usize]);
     }
     most
 }
 
-// The need of a node, by one pass over the nodes from the last to it: a child with many parents is
-// looked at once.
+// The need of a node, by one pass over the nodes from the last to it: a child with many parents is looked at once. The
+// table has a place for each node that an image can have, as the engine has no heap.
 pub(crate) fn need(image: &Image<'_>, number: u32) -> u32
     requires { number < nodes image.now.bytes.now }
     ensures { result ≡ need image.now.bytes.now number }

@@ -1,131 +1,79 @@
 // The walk over a node's descendants, as a loop over 16 stacked frames.
-ghost use Rattle.std.specs.Prelude.{◌≡◌, ℕ, ◌+◌, ◌^◌, ◌<◌, ◌≤◌, true, length, None, slice_index};
-ghost use Rattle.columns.specs.Fold.{row_number};
-ghost use Rattle.columns.specs.Jobs.{JobRange, child_at, each, ended, kids, opened, plan, region, splice, standing, type_of};
+ghost use Rattle.std.specs.Prelude.{◌≡◌, ◌+◌, ◌<◌, ◌≤◌, length};
+ghost use Rattle.columns.specs.Jobs.{child_job, child_at, ended, kids, opened, plan, region};
 ghost use Rattle.columns.specs.Machine.{Fits, complete};
-ghost use Rattle.image.specs.Read.{typed_slot};
-ghost use Rattle.image.specs.Slot.{null};
-ghost use Rattle.leaves.specs.Rows.{is_leaf};
-ghost use Rattle.row_rule.specs.Number.{number_of};
 
 use crate::job::{Frame, Job};
+use crate::met::{Fold, Met};
 use crate::node::Node;
+use crate::region::Region;
+use crate::span::Span;
 use crate::words::open;
 use hash_state::HashState;
-use image::place::Image;
-use layout::data_type::DataType;
-use leaves::hash_leaf;
-
-// The number of a job's row i, from its word and the region behind the job's words.
-fn fold_at(node: &Node<'_>, job: Job, from: u32, size: u32, work: &[u64], i: u32) -> u64
-    requires row { i < job.n }
-    requires range { JobRange node.now.bytes.now node.now.number node.now.r job from size (length work.now) }
-    ensures { result ≡ row_number (type_of node.now.bytes.now node.now.number) node.now.bytes.now node.now.r (standing work.now (job.at + job.n) from) job.first (slice_index work.now (job.at + i)) (job.lo + i) }
-{
-    let start = job.at + job.n as usize;
-    let e = work[job.at + i as usize];
-    node.fold_row(
-        job.lo + i,
-        &work[start..start + size as usize],
-        from,
-        job.first,
-        e,
-    )
-}
-
-// Folds the region behind a job's words into them, row by row.
-fn fold_words(node: &Node<'_>, job: Job, from: u32, size: u32, work: &mut [u64])
-    requires { JobRange node.now.bytes.now node.now.number node.now.r job from size (length work.old) }
-    ensures { work.new ≡ splice job.at job.n work.old (each (λ i. row_number (type_of node.now.bytes.now node.now.number) node.now.bytes.now node.now.r (standing work.old (job.at + job.n) from) job.first (slice_index work.old (job.at + i)) (job.lo + i)) job.n) }
-{
-    for i in 0..job.n {
-        let number = fold_at(node, job, from, size, work, i);
-        work[job.at + i as usize] = number;
-    }
-}
-
-// Child rows are hashed over a range, never through a list.
-fn no_list<'a>() -> Option<&'a [u32]>
-    ensures { result ≡ None }
-{
-    None
-}
-
-// Hashes the rows of a leaf into a job's words.
-fn hash_words<S: HashState>(node: &Node<'_>, job: Job, state: &S, work: &mut [u64])
-    requires leaf { is_leaf (type_of node.now.bytes.now node.now.number) ≡ true }
-    requires rows { job.lo + job.n ≤ node.now.r.rows }
-    requires room { job.at + job.n ≤ length work.old }
-    ensures { work.new ≡ splice job.at job.n work.old (each (λ i. number_of (S.BuildHasher.one state.now) (S.HashState.seeded state.now) job.first (slice_index work.old (job.at + i)) (typed_slot (type_of node.now.bytes.now node.now.number) node.now.bytes.now node.now.r (λ _ _. null) (job.lo + i))) job.n) }
-{
-    let at = job.at;
-    let end = at + job.n as usize;
-    hash_leaf(
-        node.bytes,
-        node.data_type(),
-        &node.r,
-        job.lo,
-        no_list(),
-        state,
-        &mut work[at..end],
-        job.first,
-    );
-}
-
-pub(crate) fn is_leaf(t: DataType) -> bool
-    ensures { result ≡ is_leaf t }
-{
-    !matches!(
-        t,
-        DataType::Dictionary(_, _)
-            | DataType::Struct
-            | DataType::List(_)
-            | DataType::ListView(_)
-            | DataType::Map
-            | DataType::FixedSizeList(_)
-            | DataType::RunEnd(_)
-    )
-}
+use leaves::Rows;
 
 // The end of a job: the words of its rows, once those of its children stand behind them.
 fn leave<S: HashState>(node: &Node<'_>, job: Job, state: &S, work: &mut [u64])
-    requires rows { job.lo + job.n ≤ node.now.r.rows }
-    requires room { job.at + job.n + region (type_of node.now.bytes.now node.now.number) node.now.bytes.now node.now.r job.lo job.n ≤ length work.old }
-    ensures { work.new ≡ ended (S.BuildHasher.one state.now) (S.HashState.seeded state.now) node.now.bytes.now (type_of node.now.bytes.now node.now.number) node.now.r job work.old }
+    requires rows { job.lo + job.n ≤ node.now.column.record.rows }
+    requires room { job.at + job.n + region node.now.t node.now.column.bytes.now node.now.column.record job.lo job.n ≤ length work.old }
+    ensures { work.new ≡ ended (S.BuildHasher.one state.now) (S.HashState.seeded state.now) node.now.column.bytes.now node.now.t node.now.column.record job work.old }
 {
-    if is_leaf(node.data_type()) {
-        hash_words(node, job, state, work);
-    } else {
-        let (from, size) = node.reach(job.lo, job.n);
-        fold_words(node, job, from, size, work);
-    }
+    let met = Met {
+        node: *node,
+        rows: Rows {
+            lo: job.lo,
+            list: None,
+        },
+        n: job.n,
+        first: job.first,
+    };
+    let span = job.rows();
+    let reach = node.reach(span);
+    let (_, rest) = work.split_at_mut(job.at);
+    let (words, behind) = rest.split_at_mut(job.n as usize);
+    let region = Region {
+        numbers: &behind[..reach.size as usize],
+        from: reach.from as usize,
+    };
+    let fold = Fold { met, span, region };
+    fold.hash(state, words);
 }
 
-// The job of a child, over the region behind the job's words, which is cleared before child 0.
-fn enter(node: &Node<'_>, job: Job, stage: u32, work: &mut [u64]) -> Job
-    requires rows { job.lo + job.n ≤ node.now.r.rows }
-    requires room { job.at + job.n + region (type_of node.now.bytes.now node.now.number) node.now.bytes.now node.now.r job.lo job.n ≤ length work.old }
-    requires child { stage < kids (type_of node.now.bytes.now node.now.number) node.now.r }
-    ensures job { result ≡ child_at node.now.bytes.now (type_of node.now.bytes.now node.now.number) node.now.r job stage }
-    ensures words { work.new ≡ opened (job.at + job.n) (region (type_of node.now.bytes.now node.now.number) node.now.bytes.now node.now.r job.lo job.n) stage work.old }
+// The job of a child over the words at a place, which are cleared before child 0.
+pub(crate) fn enter(node: &Node<'_>, stage: u32, rows: Span, at: usize, work: &mut [u64]) -> Job
+    requires child { stage < kids node.now.t node.now.column.record }
+    requires room { at + rows.size ≤ length work.old }
+    ensures job { result ≡ child_job node.now.column.bytes.now node.now.column.record stage rows.from rows.size at }
+    ensures words { work.new ≡ opened at rows.size stage work.old }
 {
-    let (from, size) = node.reach(job.lo, job.n);
-    let at = job.at + job.n as usize;
-    open(work, at, size as usize, stage);
+    open(work, at, rows.size as usize, stage);
     let child = node.child(stage);
     Job {
         node: child.number,
-        lo: from,
-        n: size,
+        lo: rows.from,
+        n: rows.size,
         at,
         first: stage == 0,
     }
 }
 
-// Does a job and all below it: the frame in hand, and 16 that wait.
-pub(crate) fn walk<S: HashState>(image: &Image<'_>, root: Job, state: &S, work: &mut [u64])
-    requires { Fits (plan (S.BuildHasher.one state.now) (S.HashState.seeded state.now) image.now.bytes.now (length work.old)) 16 root }
-    ensures { work.new ≡ complete (plan (S.BuildHasher.one state.now) (S.HashState.seeded state.now) image.now.bytes.now (length work.old)) 16 root 0 work.old }
+// The job of a child over the rows that a job reaches, in the words behind the job's own.
+fn enter_behind(node: &Node<'_>, job: Job, stage: u32, work: &mut [u64]) -> Job
+    requires rows { job.lo + job.n ≤ node.now.column.record.rows }
+    requires room { job.at + job.n + region node.now.t node.now.column.bytes.now node.now.column.record job.lo job.n ≤ length work.old }
+    requires child { stage < kids node.now.t node.now.column.record }
+    ensures job { result ≡ child_at node.now.column.bytes.now node.now.t node.now.column.record job stage }
+    ensures words { work.new ≡ opened (job.at + job.n) (region node.now.t node.now.column.bytes.now node.now.column.record job.lo job.n) stage work.old }
+{
+    let rows = node.reach(job.rows());
+    enter(node, stage, rows, job.at + job.n as usize, work)
+}
+
+// Does a job at a node of an image and all below it: the frame in hand, and 16 that wait. The frames are an array with
+// a depth, as the engine has no heap and no recursion.
+pub(crate) fn walk<S: HashState>(node: &Node<'_>, root: Job, state: &S, work: &mut [u64])
+    requires { Fits (plan (S.BuildHasher.one state.now) (S.HashState.seeded state.now) node.now.column.bytes.now (length work.old)) 16 root }
+    ensures { work.new ≡ complete (plan (S.BuildHasher.one state.now) (S.HashState.seeded state.now) node.now.column.bytes.now (length work.old)) 16 root 0 work.old }
 {
     let mut top = Frame {
         job: root,
@@ -134,15 +82,15 @@ pub(crate) fn walk<S: HashState>(image: &Image<'_>, root: Job, state: &S, work: 
     let mut frames = [top; 16];
     let mut depth: usize = 0;
     loop {
-        let node = Node::of(image, top.job.node);
-        if top.stage < node.kids() {
-            let job = enter(&node, top.job, top.stage, work);
+        let here = node.other(top.job.node);
+        if top.stage < here.kids() {
+            let job = enter_behind(&here, top.job, top.stage, work);
             top.stage += 1;
             frames[depth] = top;
             depth += 1;
             top = Frame { job, stage: 0 };
         } else {
-            leave(&node, top.job, state, work);
+            leave(&here, top.job, state, work);
             if depth == 0 {
                 return;
             }

@@ -16,7 +16,7 @@ fn clear_at(work: &mut [u64], at: usize, n: usize)
     clear(&mut work[at..at + n]);
 }
 
-// Clears them before child 0.
+// Clears them before child 0. One function, as `opened` of the definitions: the walk and the call over a column both do so.
 pub(crate) fn open(work: &mut [u64], at: usize, n: usize, stage: u32)
     requires { at + n ≤ length work.old }
     ensures { work.new ≡ opened at n stage work.old }

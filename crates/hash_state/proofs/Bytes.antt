@@ -1,10 +1,12 @@
 -- The low bytes of a number, cut and joined.
-use Rattle.std.proofs.Common.{◌≡◌, ℕ, zero, suc, ◌+◌, ◌-◌, ◌*◌, ◌/◌, ◌%◌, ◌^◌, ◌<◌, ◌≤◌, List, ◌∷◌, ◌++◌, length, get_or, drop, sym, refl, ap, ◌∙◌, subst, ap₂, append-nil, arith, drop-cons, pow_mono, pow-add, shr-shr, shr_lt}
+use Rattle.std.proofs.Common.{◌≡◌, ℕ, zero, suc, ◌+◌, ◌-◌, ◌*◌, ◌/◌, ◌%◌, ◌^◌, ◌<◌, ◌≤◌, List, ◌∷◌, ◌++◌, length, take, drop, sym, refl, ap, ◌∙◌, subst, ap₂, append_assoc, take-append-drop, arith, pow_mono, pow-add, shr-shr, shr_lt}
+use Rattle.std.specs.List.{flat_map}
+use Rattle.std.specs.Simd.{first_chunks}
 use lib.Bits.{bit_or, or_mod, or_shifted_r}
 use lib.Arith.{digits_lt}
 use lib.Pow.{field, high, low, mod-mod-pow, mod-pow-add}
 use Rattle.hash_state.specs.Writes.{le_bytes}
-use Rattle.std.proofs.lemmas.List.{drop_all, drop_at, drop-drop}
+use Rattle.std.proofs.lemmas.List.{drop_at, drop-drop}
 use Rattle.hash_state.specs.Sip.{le_number}
 
 pub length-le_bytes : (k x : ℕ) → length (le_bytes k x) ≡ k
@@ -66,13 +68,6 @@ over_is t v e h k =
     ∙ shr-shr x e (64 - e)
     ∙ ap (λ (d : ℕ). x / 2 ^ d) b
 
--- one more byte below a number
-pub under : (k b x : ℕ) → b < 256 → le_bytes (suc k) (b + 256 * x) ≡ b ∷ le_bytes k x
-under k b x h =
-    let m : (b + 256 * x) % 256 ≡ b = omega arith in
-    let d : (b + 256 * x) / 256 ≡ x = omega arith in
-    ap (λ (y : ℕ). y ∷ le_bytes k ((b + 256 * x) / 256)) m ∙ ap (λ (y : ℕ). b ∷ le_bytes k y) d
-
 pub joint_lt : (k w t v : ℕ) → t < 2 ^ (8 * k) → v < 2 ^ (8 * w) → v * 2 ^ (8 * k) + t < 2 ^ (8 * (k + w))
 joint_lt k w t v h g =
     let a : 8 * w + 8 * k ≡ 8 * (k + w) = omega arith in
@@ -95,32 +90,6 @@ over_lt k w v g l m =
     let Q : ℕ → Type 0 = λ y. y < 2 ^ (8 * (k + w - 8)) in
     subst Q (sym (shr-shr v (56 - 8 * k) 8 ∙ ap (λ (d : ℕ). v / 2 ^ d) a)) (shr_lt (8 * (k + w - 8)) (64 - 8 * k) (subst P b g))
 
--- k bytes from the place i + j of a list, as a number
-abbrev pub number_at : List ℕ → ℕ → ℕ → ℕ → ℕ
-number_at xs i zero j = 0
-number_at xs i (suc k) j = get_or xs (i + j) 0 + 256 * number_at xs i k (suc j)
-
-pub read_at : (xs : List ℕ) (i k j : ℕ) → ((p : ℕ) → get_or xs p 0 < 256) → i + (j + k) ≤ length xs → le_bytes k (number_at xs i k j) ++ drop (i + (j + k)) xs ≡ drop (i + j) xs
-read_at xs i zero j small h =
-    let a : i + (j + zero) ≡ i + j = omega arith in
-    ap (λ (p : ℕ). drop p xs) a
-read_at xs i (suc k) j small h =
-    let a : i + (j + suc k) ≡ i + (suc j + k) = omega arith in
-    let b : i + suc j ≡ suc (i + j) = omega arith in
-    let g : i + (suc j + k) ≤ length xs = omega arith in
-    let l : i + j < length xs = omega arith in
-    ap (λ (p : ℕ). le_bytes (suc k) (number_at xs i (suc k) j) ++ drop p xs) a
-    ∙ ap (λ (m : List ℕ). m ++ drop (i + (suc j + k)) xs) (under k (get_or xs (i + j) 0) (number_at xs i k (suc j)) (small (i + j)))
-    ∙ ap (λ (m : List ℕ). get_or xs (i + j) 0 ∷ m) (read_at xs i k (suc j) small g ∙ ap (λ (p : ℕ). drop p xs) b)
-    ∙ sym (drop-cons xs (i + j) 0 l)
-
-number_at_lt : (xs : List ℕ) (i k j : ℕ) → ((p : ℕ) → get_or xs p 0 < 256) → number_at xs i k j < 2 ^ (8 * k)
-number_at_lt xs i zero j small = omega arith
-number_at_lt xs i (suc k) j small =
-    let a : 8 * k + 8 ≡ 8 * suc k = omega arith in
-    let e : 2 ^ (8 * k) * 2 ^ 8 ≡ 2 ^ (8 * suc k) = sym (pow-add 2 (8 * k) 8) ∙ ap (λ (d : ℕ). 2 ^ d) a in
-    omega (arith, e, small (i + j), number_at_lt xs i k (suc j) small)
-
 -- the highest k of m bytes
 pub upper : (m k w : ℕ) → k ≤ m → le_bytes k (w / 2 ^ (8 * (m - k))) ≡ drop (m - k) (le_bytes m w)
 upper m k w h =
@@ -135,37 +104,18 @@ upper_lt m k w h g =
     shr_lt (8 * k) (8 * (m - k)) (subst P a g)
 
 -- the last k bytes of a list, from its last m
-pub last_part : (xs : List ℕ) (m k w : ℕ) → k ≤ m → m ≤ length xs → le_bytes m w ++ drop (length xs - m + m) xs ≡ drop (length xs - m) xs → le_bytes k (w / 2 ^ (8 * (m - k))) ≡ drop (length xs - k) xs
+pub last_part : (xs : List ℕ) (m k w : ℕ) → k ≤ m → m ≤ length xs → le_bytes m w ≡ drop (length xs - m) xs → le_bytes k (w / 2 ^ (8 * (m - k))) ≡ drop (length xs - k) xs
 last_part xs m k w h g e =
-    let a : length xs ≤ length xs - m + m = omega arith in
     let b : length xs - m + (m - k) ≡ length xs - k = omega arith in
-    let l : le_bytes m w ≡ drop (length xs - m) xs = sym (append-nil (le_bytes m w)) ∙ ap (λ (r : List ℕ). le_bytes m w ++ r) (sym (drop_all (length xs - m + m) xs a)) ∙ e in
-    upper m k w h ∙ ap (drop (m - k)) l ∙ drop-drop (m - k) (length xs - m) xs ∙ ap (λ (p : ℕ). drop p xs) b
+    upper m k w h ∙ ap (drop (m - k)) e ∙ drop-drop (m - k) (length xs - m) xs ∙ ap (λ (p : ℕ). drop p xs) b
 
 pub shifted_is : (k w : ℕ) → k < 8 → w / 2 ^ (56 - 8 * k) / 2 ^ 8 ≡ w / 2 ^ (8 * (8 - k))
 shifted_is k w h =
     let a : 56 - 8 * k + 8 ≡ 8 * (8 - k) = omega arith in
     shr-shr w (56 - 8 * k) 8 ∙ ap (λ (d : ℕ). w / 2 ^ d) a
 
--- the bytes xs are those of x
-pub record Number (xs : List ℕ) (x : ℕ) : Type 0 where
-  pub low : x < 2 ^ (8 * length xs)
-  pub same : le_bytes (length xs) x ≡ xs
-
--- all bytes of a list, read one by one
-pub read_all : (xs : List ℕ) (k x : ℕ) → ((p : ℕ) → get_or xs p 0 < 256) → length xs ≡ k → x ≡ number_at xs 0 k 0 → Number xs x
-read_all xs k x small e q =
-    let h : 0 + (0 + k) ≤ length xs = omega arith in
-    let a : length xs ≤ 0 + (0 + k) = omega arith in
-    let P : ℕ → Type 0 = λ y. y < 2 ^ (8 * length xs) in
-    let Q : ℕ → Type 0 = λ j. number_at xs 0 k 0 < 2 ^ (8 * j) in
-    record {
-      low = subst P (sym q) (subst Q (sym e) (number_at_lt xs 0 k 0 small));
-      same = ap₂ le_bytes e q ∙ sym (append-nil (le_bytes k (number_at xs 0 k 0))) ∙ ap (λ (l : List ℕ). le_bytes k (number_at xs 0 k 0) ++ l) (sym (drop_all (0 + (0 + k)) xs a)) ∙ read_at xs 0 k 0 small h;
-    }
-
 -- four to seven bytes, from the first four and the last four
-pub halved : (xs : List ℕ) (a b : ℕ) → 4 ≤ length xs → length xs < 8 → a < 2 ^ 32 → b < 2 ^ 32 → le_bytes 4 a ++ drop 4 xs ≡ xs → le_bytes 4 b ++ drop (length xs - 4 + 4) xs ≡ drop (length xs - 4) xs → Number xs (a + b / 2 ^ (8 * (8 - length xs)) * 2 ^ 32 % 2 ^ 64)
+pub halved : (xs : List ℕ) (a b : ℕ) → 4 ≤ length xs → length xs < 8 → a < 2 ^ 32 → b < 2 ^ 32 → le_bytes 4 a ≡ take 4 xs → le_bytes 4 b ≡ drop (length xs - 4) xs → le_bytes (length xs) (a + b / 2 ^ (8 * (8 - length xs)) * 2 ^ 32 % 2 ^ 64) ≡ xs
 halved xs a b p q al bl ea eb =
     let n : ℕ = length xs in
     let k : ℕ = n - 4 in
@@ -181,9 +131,25 @@ halved xs a b p q al bl ea eb =
     let nk : 4 + k ≡ n = omega arith in
     let nd : n - k ≡ 4 = omega arith in
     let top : le_bytes k h ≡ drop 4 xs = ap (le_bytes k) (sym hd) ∙ last_part xs 4 k b kl p eb ∙ ap (λ (i : ℕ). drop i xs) nd in
-    let Q : ℕ → Type 0 = λ y. y < 2 ^ (8 * n) in
-    let R : ℕ → Type 0 = λ i. h * 2 ^ 32 + a < 2 ^ (8 * i) in
-    record {
-      low = subst Q (sym v) (subst R nk (joint_lt 4 k a h al hl));
-      same = ap (le_bytes n) v ∙ ap (λ (i : ℕ). le_bytes i (h * 2 ^ 32 + a)) (sym nk) ∙ sym (join 4 k a h al) ∙ ap (λ (l : List ℕ). le_bytes 4 a ++ l) top ∙ ea;
-    }
+    ap (le_bytes n) v ∙ ap (λ (i : ℕ). le_bytes i (h * 2 ^ 32 + a)) (sym nk) ∙ sym (join 4 k a h al) ∙ ap₂ (λ (l m : List ℕ). l ++ m) ea top ∙ take-append-drop 4 xs
+
+-- a list in chunks of n, as far as they go
+flat-first_chunks : (n k : ℕ) (xs : List ℕ) → flat_map (λ x. x) (first_chunks n k xs) ++ drop (k * n) xs ≡ xs
+flat-first_chunks n zero xs =
+    let a : 0 * n ≡ 0 = omega arith in
+    ap (λ (i : ℕ). drop i xs) a
+flat-first_chunks n (suc k) xs =
+    let more : List ℕ = flat_map (λ x. x) (first_chunks n k (drop n xs)) in
+    let a : suc k * n ≡ n + k * n = omega arith in
+    append_assoc (take n xs) more (drop (suc k * n) xs)
+    ∙ ap (λ (l : List ℕ). take n xs ++ (more ++ l)) (ap (λ (i : ℕ). drop i xs) a ∙ sym (drop-drop (k * n) n xs))
+    ∙ ap (λ (l : List ℕ). take n xs ++ l) (flat-first_chunks n k (drop n xs))
+    ∙ take-append-drop n xs
+
+-- a list as its words, and the bytes after them as the highest of its last eight
+pub cut : (xs last : List ℕ) (u : ℕ) → 8 ≤ length xs → last ≡ drop (length xs - 8) xs → le_bytes (length xs % 8) u ≡ drop (8 - length xs % 8) last → flat_map (λ x. x) (first_chunks 8 (length xs / 8) xs) ++ le_bytes (length xs % 8) u ≡ xs
+cut xs last u h e f =
+    let k : ℕ = length xs % 8 in
+    let a : length xs - 8 + (8 - k) ≡ length xs / 8 * 8 = omega arith in
+    ap (λ (l : List ℕ). flat_map (λ x. x) (first_chunks 8 (length xs / 8) xs) ++ l) (f ∙ ap (drop (8 - k)) e ∙ drop-drop (8 - k) (length xs - 8) xs ∙ ap (λ (i : ℕ). drop i xs) a)
+    ∙ flat-first_chunks 8 (length xs / 8) xs

@@ -1,11 +1,12 @@
 -- What a write does to the number that a stream finishes with.
-use Rattle.std.proofs.Common.{◌≡◌, ℕ, zero, suc, ◌+◌, ◌-◌, ◌*◌, ◌/◌, ◌%◌, ◌^◌, ◌<◌, ◌≤◌, List, [], ◌∷◌, ◌++◌, length, drop, replicate, sym, refl, ap, ◌∙◌, ap₂, append_assoc, append-nil, mod-eq_of_lt, arith, length-append, pow_mono}
+use Rattle.std.proofs.Common.{◌≡◌, ℕ, zero, suc, ◌+◌, ◌-◌, ◌*◌, ◌/◌, ◌%◌, ◌^◌, ◌<◌, ◌≤◌, List, [], ◌∷◌, ◌++◌, length, get_or, drop, replicate, sym, refl, ap, ◌∙◌, ap₂, append_assoc, append-nil, mod-eq_of_lt, arith, length-append, pow_mono}
 use lib.Bits.{bit_or}
-use Rattle.std.proofs.lemmas.List.{drop_at}
+use Rattle.std.specs.List.{flat_map}
+use Rattle.std.proofs.lemmas.List.{at_drop_more}
 use Rattle.hash_state.specs.Writes.{le_bytes}
 use Rattle.hash_state.specs.Sip.{Sip, compress, compressed, finalize, initial, le_number, parsed, siphash, words}
 use Rattle.hash_state.specs.Stream.{finished}
-use Rattle.hash_state.proofs.Bytes.{full_is, held_is, join, length-le_bytes, le_number-le_bytes, over_is, shifted_is, split}
+use Rattle.hash_state.proofs.Bytes.{full_is, held_is, join, length-le_bytes, le_number-le_bytes, over_is, split}
 
 parsed_word : (z x : ℕ) (bs : List ℕ) → parsed z (le_bytes 8 x ++ bs) ≡ (x % 2 ^ 64) ∷ parsed z bs
 unfolding parsed words
@@ -94,59 +95,26 @@ filling s r n w t v bs h m l e =
     ∙ append_assoc (le_bytes k t) (le_bytes w v) bs)
     ∙ ap (λ (y : ℕ). finished s y (le_bytes k t ++ (le_bytes w v ++ bs))) (counted n w (le_bytes w v) bs (sym (length-le_bytes w v)))
 
--- a whole word of the bytes, when none wait
-pub stepped : (s r : Sip) (z w i : ℕ) (xs bs : List ℕ) → w < 2 ^ 64 → r ≡ compress s w → le_bytes 8 w ++ drop (i + 8) xs ≡ drop i xs
-    → finished r z (drop (i + 8) xs ++ bs) ≡ finished s z (drop i xs ++ bs)
-stepped s r z w i xs bs h e f =
-    let more : List ℕ = drop (i + 8) xs ++ bs in
-    ap (λ (y : Sip). finished y z more) (e ∙ ap (compress s) (sym (mod-eq_of_lt h)))
-    ∙ sym (finished_word s z w more)
-    ∙ ap (finished s z) (sym (append_assoc (le_bytes 8 w) (drop (i + 8) xs) bs) ∙ ap (λ (l : List ℕ). l ++ bs) f)
+-- a word of a list of words, after those before it
+pub stepped : (s r : Sip) (z w i : ℕ) (ws : List (List ℕ)) (bs : List ℕ) → w < 2 ^ 64 → r ≡ compress s w → i < length ws → le_bytes 8 w ≡ get_or ws i []
+    → finished r z (flat_map (λ x. x) (drop (i + 1) ws) ++ bs) ≡ finished s z (flat_map (λ x. x) (drop i ws) ++ bs)
+stepped s r z w i ws bs h e l f =
+    let rest : List ℕ = flat_map (λ x. x) (drop (i + 1) ws) in
+    ap (λ (y : Sip). finished y z (rest ++ bs)) (e ∙ ap (compress s) (sym (mod-eq_of_lt h)))
+    ∙ sym (finished_word s z w (rest ++ bs))
+    ∙ ap (finished s z)
+    (ap (λ (l : List ℕ). l ++ (rest ++ bs)) f
+    ∙ sym (append_assoc (get_or ws i []) rest bs)
+    ∙ ap (λ (l : List ℕ). l ++ bs) (sym (at_drop_more (flat_map (λ x. x)) ws i [] l)))
 
--- the bytes after those that fill the word that waits
-rest_is : (k t w : ℕ) (xs : List ℕ) → t < 2 ^ (8 * k) → k < 8 → le_bytes 8 w ++ drop 8 xs ≡ xs → drop (8 - k) xs ≡ le_bytes k ((w * 2 ^ (8 * k) + t) / 2 ^ 64) ++ drop 8 xs
-rest_is k t w xs h l f =
-    let over : ℕ = w / 2 ^ (8 * (8 - k)) in
-    let b : 8 * k ≤ 56 = omega arith in
-    let d : 8 ≡ 8 - k + k = omega arith in
-    let two : le_bytes 8 w ≡ le_bytes (8 - k) w ++ le_bytes k over = ap (λ (j : ℕ). le_bytes j w) d ∙ split (8 - k) k w in
-    let all : xs ≡ le_bytes (8 - k) w ++ (le_bytes k over ++ drop 8 xs) =
-    sym f ∙ ap (λ (l : List ℕ). l ++ drop 8 xs) two ∙ append_assoc (le_bytes (8 - k) w) (le_bytes k over) (drop 8 xs) in
-    ap (drop (8 - k)) all
-    ∙ drop_at (le_bytes (8 - k) w) (le_bytes k over ++ drop 8 xs) (8 - k) (length-le_bytes (8 - k) w)
-    ∙ ap (λ (y : ℕ). le_bytes k y ++ drop 8 xs) (sym (shifted_is k w l) ∙ over_is t w (8 * k) h b)
-
--- the first bytes fill the word that waits
-pub topped : (s r : Sip) (z k t w : ℕ) (xs bs : List ℕ) → t < 2 ^ (8 * k) → k < 8 → r ≡ compress s (bit_or t (w * 2 ^ (8 * k) % 2 ^ 64)) → le_bytes 8 w ++ drop 8 xs ≡ xs
-    → finished r z (drop (8 - k) xs ++ bs) ≡ finished s z (le_bytes k t ++ (xs ++ bs))
-topped s r z k t w xs bs h l e f =
-    let x : ℕ = w * 2 ^ (8 * k) + t in
-    let over : List ℕ = le_bytes k (x / 2 ^ 64) in
-    let a : 8 * k ≤ 64 = omega arith in
-    let d : 8 + k ≡ k + 8 = omega arith in
-    let both : le_bytes 8 x ++ over ≡ le_bytes k t ++ le_bytes 8 w = sym (split 8 k x) ∙ ap (λ (j : ℕ). le_bytes j x) d ∙ sym (join k 8 t w h) in
-    let bytes : le_bytes 8 x ++ ((over ++ drop 8 xs) ++ bs) ≡ le_bytes k t ++ (xs ++ bs) =
-    sym (append_assoc (le_bytes 8 x) (over ++ drop 8 xs) bs)
-    ∙ ap (λ (l : List ℕ). l ++ bs)
-    (sym (append_assoc (le_bytes 8 x) over (drop 8 xs))
-    ∙ ap (λ (l : List ℕ). l ++ drop 8 xs) both
-    ∙ append_assoc (le_bytes k t) (le_bytes 8 w) (drop 8 xs)
-    ∙ ap (λ (l : List ℕ). le_bytes k t ++ l) f)
-    ∙ append_assoc (le_bytes k t) xs bs in
-    ap₂ (λ (y : Sip) (l : List ℕ). finished y z (l ++ bs)) (e ∙ ap (compress s) (full_is t w (8 * k) h a)) (rest_is k t w xs h l f)
-    ∙ sym (finished_word s z x ((over ++ drop 8 xs) ++ bs))
-    ∙ ap (finished s z) bytes
-
--- all of the bytes: the first, the words, and those that wait after them
-pub through_all : (s q r : Sip) (n k t u i j : ℕ) (xs bs : List ℕ)
-    → ((z : ℕ) (cs : List ℕ) → finished q z (drop i xs ++ cs) ≡ finished s z (le_bytes (n % 8) t ++ (xs ++ cs)))
-    → ((z : ℕ) (cs : List ℕ) → finished r z (drop j xs ++ cs) ≡ finished q z (drop i xs ++ cs))
-    → le_bytes (length xs - j) u ≡ drop j xs
-    → k ≡ length xs - j
-    → finished r (((n + length xs) % 2 ^ 64 + length bs) % 256) (le_bytes k u ++ bs) ≡ finished s ((n + length (xs ++ bs)) % 256) (le_bytes (n % 8) t ++ (xs ++ bs))
-through_all s q r n k t u i j xs bs first words last e =
+-- bytes that come when none wait: the words, and those that wait after them
+pub whole : (s r : Sip) (n t u : ℕ) (front xs bs : List ℕ) → n % 8 ≡ 0 → ((z : ℕ) (cs : List ℕ) → finished r z cs ≡ finished s z (front ++ cs)) → front ++ le_bytes (length xs % 8) u ≡ xs
+    → finished r (((n + length xs) % 2 ^ 64 + length bs) % 256) (le_bytes ((n + length xs) % 2 ^ 64 % 8) u ++ bs) ≡ finished s ((n + length (xs ++ bs)) % 256) (le_bytes (n % 8) t ++ (xs ++ bs))
+whole s r n t u front xs bs none words e =
     let z : ℕ = ((n + length xs) % 2 ^ 64 + length bs) % 256 in
-    ap (λ (l : List ℕ). finished r z (l ++ bs)) (ap (λ (m : ℕ). le_bytes m u) e ∙ last)
-    ∙ words z bs
-    ∙ first z bs
-    ∙ ap (λ (y : ℕ). finished s y (le_bytes (n % 8) t ++ (xs ++ bs))) (counted n (length xs) xs bs refl)
+    let j : ℕ = length xs % 8 in
+    let k : (n + length xs) % 2 ^ 64 % 8 ≡ j = omega (arith, mod_8 (n + length xs), none) in
+    ap (λ (i : ℕ). finished r z (le_bytes i u ++ bs)) k
+    ∙ words z (le_bytes j u ++ bs)
+    ∙ ap (finished s z) (sym (append_assoc front (le_bytes j u) bs) ∙ ap (λ (l : List ℕ). l ++ bs) e)
+    ∙ ap₂ (λ (y i : ℕ). finished s y (le_bytes i t ++ (xs ++ bs))) (counted n (length xs) xs bs refl) (sym none)

@@ -1,5 +1,6 @@
 -- FNV-1a with 64 bits, as Fowler, Noll and Vo publish it.
 use Rattle.std.specs.Prelude.{◌≡◌, ℕ, ◌*◌, ◌%◌, ◌^◌, List, [], ◌∷◌, bit_xor, refl}
+use Rattle.std.specs.List.{fold}
 
 -- The standard start, which the publication calls the offset basis.
 abbrev pub offset_basis : ℕ
@@ -11,8 +12,7 @@ step h b = (bit_xor h b * 1099511628211) % 2 ^ 64
 
 -- The hash of a byte list from a start, one byte after another.
 abbrev pub fnv1a : ℕ → List ℕ → ℕ
-fnv1a h [] = h
-fnv1a h (b ∷ bs) = fnv1a (step h b) bs
+fnv1a h bs = fold step h bs
 
 -- The published hash of the text "a".
 pub published_a : fnv1a offset_basis (97 ∷ []) ≡ 0xaf63dc4c8601ec8c

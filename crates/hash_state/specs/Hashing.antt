@@ -1,13 +1,12 @@
--- FNV-1a over joined lists, and the bound of its numbers.
-use Rattle.std.specs.Prelude.{◌≡◌, ℕ, ◌+◌, ◌-◌, ◌/◌, ◌%◌, ◌^◌, ◌<◌, List, [], ◌∷◌, ◌++◌, length, take, drop, slice_index, refl}
-use Rattle.std.proofs.Common.{sym, ap, ◌∙◌, take-append-drop, rules, arith}
+-- FNV-1a over lists in parts, the bound of its numbers, and the bytes of a word.
+use Rattle.std.specs.Prelude.{◌≡◌, ℕ, zero, suc, ◌+◌, ◌-◌, ◌*◌, ◌/◌, ◌%◌, ◌^◌, ◌<◌, List, [], ◌∷◌, ◌++◌, length, take, drop, slice_index, refl}
+use Rattle.std.specs.List.{fold}
+use Rattle.std.specs.Simd.{first_chunks}
+use Rattle.std.proofs.Common.{sym, ap, ◌∙◌, take-append-drop, length-drop, rules, arith}
 use Rattle.std.proofs.lemmas.List.{at_drop_more, take_rest}
+use Rattle.std.proofs.lemmas.List.Sums.{fold-append}
 use Rattle.hash_state.specs.Writes.{le_bytes}
 use Rattle.hash_state.specs.Fnv.{step, fnv1a}
-
-pub fnv1a-append : (xs ys : List ℕ) (h : ℕ) → fnv1a h (xs ++ ys) ≡ fnv1a (fnv1a h xs) ys
-fnv1a-append [] ys h = refl
-fnv1a-append (x ∷ xs) ys h = fnv1a-append xs ys (step h x)
 
 pub fnv1a_below : (bs : List ℕ) (h : ℕ) → h < 2 ^ 64 → fnv1a h bs < 2 ^ 64
 fnv1a_below [] h l = l
@@ -16,6 +15,9 @@ fnv1a_below (b ∷ bs) h l = fnv1a_below bs (step h b) (omega arith)
 -- The eight bytes of a word, each by its own quotient.
 pub eight_bytes : (v : ℕ) → (v % 256) ∷ (v / 256 % 256) ∷ (v / 65536 % 256) ∷ (v / 16777216 % 256) ∷ (v / 4294967296 % 256) ∷ (v / 1099511627776 % 256) ∷ (v / 281474976710656 % 256) ∷ (v / 72057594037927936 % 256) ∷ [] ≡ le_bytes 8 v
 eight_bytes v = search rules
+
+pub fnv1a-append : (xs ys : List ℕ) (h : ℕ) → fnv1a h (xs ++ ys) ≡ fnv1a (fnv1a h xs) ys
+fnv1a-append xs ys h = fold-append step h xs ys
 
 -- One byte of a list.
 pub fnv1a_more : (xs : List ℕ) (i j h next : ℕ) → j ≡ i + 1 → i < length xs → next ≡ step h (slice_index xs i) → fnv1a h (drop i xs) ≡ fnv1a next (drop j xs)
@@ -30,3 +32,19 @@ fnv1a_parts xs k h =
     ap (fnv1a (fnv1a h (take k xs))) (take_rest xs k)
     ∙ sym (fnv1a-append (take k xs) (drop k xs) h)
     ∙ ap (fnv1a h) (take-append-drop k xs)
+
+fnv1a-blocks : (n k h : ℕ) (xs : List ℕ) → length xs ≡ k * n → fold fnv1a h (first_chunks n k xs) ≡ fnv1a h xs
+fnv1a-blocks n zero h [] l = refl
+fnv1a-blocks n zero h (x ∷ xs) l = absurd (omega (arith, l))
+fnv1a-blocks n (suc k) h xs l =
+    fnv1a-blocks n k (fnv1a h (take n xs)) (drop n xs) (omega (arith, length-drop n xs, l))
+    ∙ sym (fnv1a-append (take n xs) (drop n xs) h)
+    ∙ ap (fnv1a h) (take-append-drop n xs)
+
+-- A list by blocks of eight, which stand at its end.
+pub fnv1a_by_blocks : (h : ℕ) (xs : List ℕ) → fold fnv1a (fnv1a h (take (length xs % 8) xs)) (first_chunks 8 (length xs / 8) (drop (length xs % 8) xs)) ≡ fnv1a h xs
+fnv1a_by_blocks h xs =
+    let odd : ℕ = length xs % 8 in
+    fnv1a-blocks 8 (length xs / 8) (fnv1a h (take odd xs)) (drop odd xs) (omega (arith, length-drop odd xs))
+    ∙ sym (fnv1a-append (take odd xs) (drop odd xs) h)
+    ∙ ap (fnv1a h) (take-append-drop odd xs)

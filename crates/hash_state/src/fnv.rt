@@ -1,5 +1,6 @@
 // FNV-1a as a hasher.
-ghost use Rattle.std.specs.Prelude.{◌≡◌, ◌%◌, ◌^◌, ◌<◌, length};
+ghost use Rattle.std.specs.Prelude.{◌≡◌, ◌^◌, ◌<◌};
+ghost use Rattle.std.specs.List.{fold};
 ghost use Rattle.hash_state.specs.Writes.{joined};
 ghost use Rattle.hash_state.specs.Fnv.{fnv1a, offset_basis, step};
 ghost use Rattle.hash_state.specs.Hashing.{fnv1a_below};
@@ -18,55 +19,39 @@ fn step(hash: u64, byte: u8) -> u64
     (hash ^ u64::from(byte)).wrapping_mul(1099511628211)
 }
 
-// A hasher that has been told the bytes.
-fn hashed(hasher: Fnv1aHasher, bytes: &[u8]) -> Fnv1aHasher
-    ensures { result.hash ≡ fnv1a hasher.hash bytes.now }
+// The bytes, one after another.
+fn hashed(hash: u64, bytes: &[u8]) -> u64
+    ensures { result ≡ fnv1a hash bytes.now }
 {
-    let mut hash = hasher.hash;
-    for b in bytes {
-        hash = step(hash, *b);
-    }
-    Fnv1aHasher { hash }
+    bytes.iter().fold(hash, |hash, byte| step(hash, *byte))
 }
 
 // The same by blocks of eight.
-fn hashed_blocks(hasher: Fnv1aHasher, bytes: &[u8]) -> Fnv1aHasher
-    requires { length bytes.now % 8 ≡ 0 }
-    ensures { result.hash ≡ fnv1a hasher.hash bytes.now }
+fn hashed_blocks(hash: u64, blocks: &[[u8; 8]]) -> u64
+    ensures { result ≡ fold fnv1a hash blocks.now }
 {
-    let mut hash = hasher.hash;
-    let mut i = 0;
-    while i < bytes.len() {
-        hash = step(
-            step(step(step(hash, bytes[i]), bytes[i + 1]), bytes[i + 2]),
-            bytes[i + 3],
-        );
-        hash = step(
-            step(step(step(hash, bytes[i + 4]), bytes[i + 5]), bytes[i + 6]),
-            bytes[i + 7],
-        );
-        i += 8;
-    }
-    Fnv1aHasher { hash }
+    blocks.iter().fold(hash, |hash, block| hashed(hash, block))
 }
 
 impl Hasher for Fnv1aHasher {
     ghost meaning = { λ h ws. fnv1a h.hash (joined ws) };
 
+    // A method for each width, as the Rust's trait has them: arrays of bytes differ in type by their length.
     fn write_u8(&mut self, v: u8) {
-        *self = hashed(*self, &[v]);
+        self.hash = hashed(self.hash, &[v]);
     }
 
     fn write_u16(&mut self, v: u16) {
-        *self = hashed(*self, &u16::to_le_bytes(v));
+        self.hash = hashed(self.hash, &u16::to_le_bytes(v));
     }
 
     fn write_u32(&mut self, v: u32) {
-        *self = hashed(*self, &u32::to_le_bytes(v));
+        self.hash = hashed(self.hash, &u32::to_le_bytes(v));
     }
 
+    #[tactic(auto, using(crate::specs::Hashing::eight_bytes))]
     fn write_u64(&mut self, v: u64) {
-        *self = hashed(*self, &u64::to_le_bytes(v));
+        self.hash = hashed(self.hash, &u64::to_le_bytes(v));
     }
 
     fn write_pair(&mut self, low: u64, high: u64) {
@@ -76,9 +61,8 @@ impl Hasher for Fnv1aHasher {
 
     // The bytes that are no whole block come first: of strings of any length most of the time is then spent in blocks.
     fn write(&mut self, bytes: &[u8]) {
-        let odd = bytes.len() % 8;
-        *self = hashed(*self, &bytes[..odd]);
-        *self = hashed_blocks(*self, &bytes[odd..]);
+        let (odd, blocks) = bytes.as_rchunks::<8>();
+        self.hash = hashed_blocks(hashed(self.hash, odd), blocks);
     }
 
     fn finish(&self) -> u64 {

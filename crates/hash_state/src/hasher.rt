@@ -6,6 +6,7 @@ pub trait Hasher {
     // The number that it would finish with after each list of further writes.
     ghost meaning: { Self → List Write → ℕ };
 
+    // A method for each width, as the Rust's trait has them.
     fn write_u8(&mut self, v: u8)
         ensures { (ws : List Write) → meaning self.new ws ≡ meaning self.old (Word 1 v ∷ ws) };
 

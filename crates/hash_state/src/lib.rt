@@ -12,5 +12,6 @@ pub use fnv::{Fnv1aHasher, Fnv1aState};
 pub use hasher::{BuildHasher, HashState, Hasher};
 pub use siphash::{SipHashState, SipHasher};
 pub use value::{
-    Binary, Float16, Float32, Float64, HashValue, Nothing, Text, View, hash_entry, hash_later,
+    Binary, Float, Float16, Float32, Float64, FloatBits, HashValue, Integer, Nothing, PlainValue,
+    Text, View, hash_entry, hash_later,
 };

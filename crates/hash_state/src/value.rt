@@ -1,14 +1,14 @@
 // The values that are hashed.
-ghost use Rattle.std.specs.Prelude.{◌≡◌, Bool, true, false, List, ◌++◌, if◌then◌else◌};
+ghost use Rattle.std.specs.Prelude.{◌≡◌, ℕ, Bool, true, false, List, ◌∷◌, ◌++◌, MatchOption};
 ghost use Rattle.hash_state.specs.Combine.{later};
-ghost use Rattle.hash_state.specs.Writes.{Write};
+ghost use Rattle.hash_state.specs.Writes.{Write, Word, Bytes, le_bytes};
 ghost use Rattle.hash_state.specs.Values.{boolean, number, float_bits, float, seeded_float, text, binary, nothing};
 ghost use Rattle.hash_state.specs.View.{view};
 
 use crate::combine::combine_hashes;
 use crate::hasher::{BuildHasher, HashState, Hasher};
 
-// What a later column does: it seeds a state with its entry and tells it the value, or it combines the value's own
+// Two truth values, as `later` of the definitions takes one. What a later column does: it seeds a state with its entry and tells it the value, or it combines the value's own
 // hash with its entry.
 const SEEDS: bool = true;
 
@@ -55,211 +55,190 @@ pub fn hash_later<V: HashValue, S: HashState>(value: &V, state: &S, entry: u64) 
     combine_hashes(value.hash_one(state), entry)
 }
 
-// What an entry comes to at a value, in a first column or in a later one, where it stands for the columns before.
-pub fn hash_entry<V: HashValue, S: HashState>(value: &V, state: &S, first: bool, entry: u64) -> u64
-    ensures { result ≡ (if first then S.BuildHasher.one state.now (V.HashValue.writes value.now) else later V.HashValue.seeding (S.HashState.seeded state.now entry (V.HashValue.seed_writes value.now)) (S.BuildHasher.one state.now (V.HashValue.writes value.now)) entry) }
+// The hash of a value in a column, where the entry stands for the columns before, if there are any.
+pub fn hash_entry<V: HashValue, S: HashState>(value: &V, state: &S, before: Option<u64>) -> u64
+    ensures { MatchOption before (result ≡ S.BuildHasher.one state.now (V.HashValue.writes value.now)) (λ entry. result ≡ later V.HashValue.seeding (S.HashState.seeded state.now entry (V.HashValue.seed_writes value.now)) (S.BuildHasher.one state.now (V.HashValue.writes value.now)) entry) }
 {
-    if !first && V::seeds() {
-        let seeded = state.seeded_state(entry);
-        let mut hasher = seeded.build_hasher();
-        value.hash_write(&mut hasher);
-        return hasher.finish();
-    }
-    let hash = value.hash_one(state);
-    if first {
-        hash
-    } else {
-        combine_hashes(hash, entry)
+    match before {
+        None => value.hash_one(state),
+        Some(entry) => hash_later(value, state, entry),
     }
 }
 
-impl HashValue for bool {
-    ghost writes = { boolean };
+// A value that tells a hasher the same with and without a seed.
+pub trait PlainValue {
+    ghost told: { Self → List Write };
 
-    ghost seed_writes = { boolean };
+    ghost seeding: { Bool };
+
+    // A function, since the check gives a trait's constant no clause where the type has a lifetime.
+    fn later() -> bool
+        ensures { result ≡ seeding };
+
+    fn tell<H: Hasher>(&self, hasher: &mut H)
+        ensures { (ws : List Write) → H.Hasher.meaning hasher.new ws ≡ H.Hasher.meaning hasher.old (told self.now ++ ws) };
+}
+
+impl<T: PlainValue> HashValue for T {
+    ghost writes = { T.PlainValue.told };
+
+    ghost seed_writes = { T.PlainValue.told };
+
+    ghost seeding = { T.PlainValue.seeding };
+
+    fn seeds() -> bool {
+        T::later()
+    }
+
+    fn hash<H: Hasher>(&self, hasher: &mut H) {
+        self.tell(hasher);
+    }
+
+    fn hash_write<H: Hasher>(&self, hasher: &mut H) {
+        self.tell(hasher);
+    }
+}
+
+impl PlainValue for bool {
+    ghost told = { boolean };
 
     ghost seeding = { false };
 
-    fn seeds() -> bool {
+    fn later() -> bool {
         COMBINES
     }
 
-    fn hash<H: Hasher>(&self, hasher: &mut H) {
+    fn tell<H: Hasher>(&self, hasher: &mut H) {
         hasher.write_u8(*self as u8);
     }
+}
 
-    fn hash_write<H: Hasher>(&self, hasher: &mut H) {
-        self.hash(hasher);
+// An unsigned number, which is written as one word. An impl for each width, as a hasher has a method for each.
+pub trait Integer: Copy {
+    // How many bytes it has.
+    ghost width: { ℕ };
+
+    // The number itself.
+    ghost bits: { Self → ℕ };
+
+    fn write_word<H: Hasher>(self, hasher: &mut H)
+        ensures { (ws : List Write) → H.Hasher.meaning hasher.new ws ≡ H.Hasher.meaning hasher.old (Word width (bits self) ∷ ws) };
+}
+
+impl Integer for u8 {
+    ghost width = { 1 };
+
+    ghost bits = { λ v. v };
+
+    fn write_word<H: Hasher>(self, hasher: &mut H) {
+        hasher.write_u8(self);
     }
 }
 
-impl HashValue for u8 {
-    ghost writes = { number 1 };
+impl Integer for u16 {
+    ghost width = { 2 };
 
-    ghost seed_writes = { number 1 };
+    ghost bits = { λ v. v };
+
+    fn write_word<H: Hasher>(self, hasher: &mut H) {
+        hasher.write_u16(self);
+    }
+}
+
+impl Integer for u32 {
+    ghost width = { 4 };
+
+    ghost bits = { λ v. v };
+
+    fn write_word<H: Hasher>(self, hasher: &mut H) {
+        hasher.write_u32(self);
+    }
+}
+
+impl Integer for u64 {
+    ghost width = { 8 };
+
+    ghost bits = { λ v. v };
+
+    fn write_word<H: Hasher>(self, hasher: &mut H) {
+        hasher.write_u64(self);
+    }
+}
+
+impl<T: Integer> PlainValue for T {
+    ghost told = { λ v. number T.Integer.width (T.Integer.bits v) };
 
     ghost seeding = { true };
 
-    fn seeds() -> bool {
+    fn later() -> bool {
         SEEDS
     }
 
-    fn hash<H: Hasher>(&self, hasher: &mut H) {
-        hasher.write_u8(*self);
-    }
-
-    fn hash_write<H: Hasher>(&self, hasher: &mut H) {
-        self.hash(hasher);
+    fn tell<H: Hasher>(&self, hasher: &mut H) {
+        self.write_word(hasher);
     }
 }
 
-impl HashValue for u16 {
-    ghost writes = { number 2 };
-
-    ghost seed_writes = { number 2 };
-
-    ghost seeding = { true };
-
-    fn seeds() -> bool {
-        SEEDS
-    }
-
-    fn hash<H: Hasher>(&self, hasher: &mut H) {
-        hasher.write_u16(*self);
-    }
-
-    fn hash_write<H: Hasher>(&self, hasher: &mut H) {
-        self.hash(hasher);
-    }
-}
-
-impl HashValue for u32 {
-    ghost writes = { number 4 };
-
-    ghost seed_writes = { number 4 };
-
-    ghost seeding = { true };
-
-    fn seeds() -> bool {
-        SEEDS
-    }
-
-    fn hash<H: Hasher>(&self, hasher: &mut H) {
-        hasher.write_u32(*self);
-    }
-
-    fn hash_write<H: Hasher>(&self, hasher: &mut H) {
-        self.hash(hasher);
-    }
-}
-
-impl HashValue for u64 {
-    ghost writes = { number 8 };
-
-    ghost seed_writes = { number 8 };
-
-    ghost seeding = { true };
-
-    fn seeds() -> bool {
-        SEEDS
-    }
-
-    fn hash<H: Hasher>(&self, hasher: &mut H) {
-        hasher.write_u64(*self);
-    }
-
-    fn hash_write<H: Hasher>(&self, hasher: &mut H) {
-        self.hash(hasher);
-    }
-}
-
-// The bits of a float of 2 bytes.
-#[derive(Clone, Copy)]
-pub struct Float16(pub u16);
-
-impl Float16 {
+// A number that is the bits of a float. Both functions stand at each width, as laws that tie a constant to the sign bit
+// and an array's length to the width would take more text than the bodies.
+pub trait FloatBits: Integer {
     // The zeros of both signs are equal, so both are hashed as 0.
-    fn plain(self) -> u16
-        ensures { result ≡ float_bits 2 self.0 }
-    {
-        if self.0 == 0x8000 { 0 } else { self.0 }
+    fn plain(self) -> Self
+        ensures { Self.Integer.bits result ≡ float_bits Self.Integer.width (Self.Integer.bits self) };
+
+    // Its bytes, the lowest first, as a byte string.
+    fn write_bytes<H: Hasher>(self, hasher: &mut H)
+        ensures { (ws : List Write) → H.Hasher.meaning hasher.new ws ≡ H.Hasher.meaning hasher.old (Bytes (le_bytes Self.Integer.width (Self.Integer.bits self)) ∷ ws) };
+}
+
+impl FloatBits for u16 {
+    fn plain(self) -> u16 {
+        if self == 0x8000 { 0 } else { self }
+    }
+
+    fn write_bytes<H: Hasher>(self, hasher: &mut H) {
+        hasher.write(&u16::to_le_bytes(self));
     }
 }
 
-impl HashValue for Float16 {
-    ghost writes = { λ v. float 2 v.0 };
-
-    ghost seed_writes = { λ v. seeded_float 2 v.0 };
-
-    ghost seeding = { true };
-
-    fn seeds() -> bool {
-        SEEDS
+impl FloatBits for u32 {
+    fn plain(self) -> u32 {
+        if self == 0x8000_0000 { 0 } else { self }
     }
 
-    fn hash<H: Hasher>(&self, hasher: &mut H) {
-        hasher.write_u16(self.plain());
-    }
-
-    fn hash_write<H: Hasher>(&self, hasher: &mut H) {
-        hasher.write(&u16::to_le_bytes(self.plain()));
+    fn write_bytes<H: Hasher>(self, hasher: &mut H) {
+        hasher.write(&u32::to_le_bytes(self));
     }
 }
 
-// The bits of a float of 4 bytes.
-#[derive(Clone, Copy)]
-pub struct Float32(pub u32);
-
-impl Float32 {
-    // The zeros of both signs are equal, so both are hashed as 0.
-    fn plain(self) -> u32
-        ensures { result ≡ float_bits 4 self.0 }
-    {
-        if self.0 == 0x8000_0000 { 0 } else { self.0 }
-    }
-}
-
-impl HashValue for Float32 {
-    ghost writes = { λ v. float 4 v.0 };
-
-    ghost seed_writes = { λ v. seeded_float 4 v.0 };
-
-    ghost seeding = { true };
-
-    fn seeds() -> bool {
-        SEEDS
-    }
-
-    fn hash<H: Hasher>(&self, hasher: &mut H) {
-        hasher.write_u32(self.plain());
-    }
-
-    fn hash_write<H: Hasher>(&self, hasher: &mut H) {
-        hasher.write(&u32::to_le_bytes(self.plain()));
-    }
-}
-
-// The bits of a float of 8 bytes.
-#[derive(Clone, Copy)]
-pub struct Float64(pub u64);
-
-impl Float64 {
-    // The zeros of both signs are equal, so both are hashed as 0.
-    fn plain(self) -> u64
-        ensures { result ≡ float_bits 8 self.0 }
-    {
-        if self.0 == 0x8000_0000_0000_0000 {
+impl FloatBits for u64 {
+    fn plain(self) -> u64 {
+        if self == 0x8000_0000_0000_0000 {
             0
         } else {
-            self.0
+            self
         }
+    }
+
+    fn write_bytes<H: Hasher>(self, hasher: &mut H) {
+        hasher.write(&u64::to_le_bytes(self));
     }
 }
 
-impl HashValue for Float64 {
-    ghost writes = { λ v. float 8 v.0 };
+// A float by its bits.
+#[derive(Clone, Copy)]
+pub struct Float<T>(pub T);
 
-    ghost seed_writes = { λ v. seeded_float 8 v.0 };
+pub type Float16 = Float<u16>;
+
+pub type Float32 = Float<u32>;
+
+pub type Float64 = Float<u64>;
+
+impl<T: FloatBits> HashValue for Float<T> {
+    ghost writes = { λ v. float T.Integer.width (T.Integer.bits v.0) };
+
+    ghost seed_writes = { λ v. seeded_float T.Integer.width (T.Integer.bits v.0) };
 
     ghost seeding = { true };
 
@@ -268,11 +247,11 @@ impl HashValue for Float64 {
     }
 
     fn hash<H: Hasher>(&self, hasher: &mut H) {
-        hasher.write_u64(self.plain());
+        self.0.plain().write_word(hasher);
     }
 
     fn hash_write<H: Hasher>(&self, hasher: &mut H) {
-        hasher.write(&u64::to_le_bytes(self.plain()));
+        self.0.plain().write_bytes(hasher);
     }
 }
 
@@ -280,26 +259,20 @@ impl HashValue for Float64 {
 #[derive(Clone, Copy)]
 pub struct Text<'a>(pub &'a [u8]);
 
-impl HashValue for Text<'_> {
-    ghost writes = { λ t. text t.0.now };
-
-    ghost seed_writes = { λ t. text t.0.now };
+impl PlainValue for Text<'_> {
+    ghost told = { λ t. text t.0.now };
 
     ghost seeding = { false };
 
-    fn seeds() -> bool
+    fn later() -> bool
         ensures { result ≡ false }
     {
         COMBINES
     }
 
-    fn hash<H: Hasher>(&self, hasher: &mut H) {
+    fn tell<H: Hasher>(&self, hasher: &mut H) {
         hasher.write(self.0);
         hasher.write_u8(255);
-    }
-
-    fn hash_write<H: Hasher>(&self, hasher: &mut H) {
-        self.hash(hasher);
     }
 }
 
@@ -307,26 +280,20 @@ impl HashValue for Text<'_> {
 #[derive(Clone, Copy)]
 pub struct Binary<'a>(pub &'a [u8]);
 
-impl HashValue for Binary<'_> {
-    ghost writes = { λ b. binary b.0.now };
-
-    ghost seed_writes = { λ b. binary b.0.now };
+impl PlainValue for Binary<'_> {
+    ghost told = { λ b. binary b.0.now };
 
     ghost seeding = { false };
 
-    fn seeds() -> bool
+    fn later() -> bool
         ensures { result ≡ false }
     {
         COMBINES
     }
 
-    fn hash<H: Hasher>(&self, hasher: &mut H) {
+    fn tell<H: Hasher>(&self, hasher: &mut H) {
         hasher.write_u64(self.0.len() as u64);
         hasher.write(self.0);
-    }
-
-    fn hash_write<H: Hasher>(&self, hasher: &mut H) {
-        self.hash(hasher);
     }
 }
 
@@ -338,28 +305,22 @@ pub enum View<'a> {
     Long(&'a [u8]),
 }
 
-impl HashValue for View<'_> {
-    ghost writes = { view };
-
-    ghost seed_writes = { view };
+impl PlainValue for View<'_> {
+    ghost told = { view };
 
     ghost seeding = { true };
 
-    fn seeds() -> bool
+    fn later() -> bool
         ensures { result ≡ true }
     {
         SEEDS
     }
 
-    fn hash<H: Hasher>(&self, hasher: &mut H) {
+    fn tell<H: Hasher>(&self, hasher: &mut H) {
         match self {
             View::Inline(low, high) => hasher.write_pair(*low, *high),
-            View::Long(bytes) => Binary(bytes).hash(hasher),
+            View::Long(bytes) => Binary(bytes).tell(hasher),
         }
-    }
-
-    fn hash_write<H: Hasher>(&self, hasher: &mut H) {
-        self.hash(hasher);
     }
 }
 
@@ -367,22 +328,16 @@ impl HashValue for View<'_> {
 #[derive(Clone, Copy)]
 pub struct Nothing;
 
-impl HashValue for Nothing {
-    ghost writes = { λ _. nothing };
-
-    ghost seed_writes = { λ _. nothing };
+impl PlainValue for Nothing {
+    ghost told = { λ _. nothing };
 
     ghost seeding = { false };
 
-    fn seeds() -> bool {
+    fn later() -> bool {
         COMBINES
     }
 
-    fn hash<H: Hasher>(&self, hasher: &mut H) {
+    fn tell<H: Hasher>(&self, hasher: &mut H) {
         hasher.write_u32(1);
-    }
-
-    fn hash_write<H: Hasher>(&self, hasher: &mut H) {
-        self.hash(hasher);
     }
 }

@@ -6,7 +6,7 @@ use Rattle.layout.specs.declared.data_type.DataType.TheVariants.{Null, Boolean, 
 use Rattle.layout.specs.Bytes.{wide}
 use Rattle.layout.specs.Nodes.{child, child_count}
 use Rattle.layout.specs.Records.{nodes, record_at}
-use Rattle.layout.specs.Types.{data_type}
+use Rattle.layout.specs.Types.{data_type, kind_of}
 use Rattle.layout.specs.Views.{view_place}
 use Rattle.image.specs.declared.value.SlotValue.{SlotValue}
 use Rattle.image.specs.declared.value.SlotValue.TheVariants as variant
@@ -15,7 +15,7 @@ use Rattle.image.specs.declared.value.SlotFault.TheVariants.{NoNode, NoRow}
 use Rattle.image.specs.Read.{offset, slot_at, view_bytes_place}
 use Rattle.image.specs.Slot.{Slot, null, nothing, boolean, number, float, text, binary, view, refer, struct, sequence, entries}
 
--- a slot as it is handed out: values, bytes with their place, or the kind alone
+-- a slot as it is handed out: values, bytes with their place, or the kind and the type alone
 pub data Value : Type 0 where
   null_mark : Value
   a_boolean : Bool → Value
@@ -24,22 +24,22 @@ pub data Value : Type 0 where
   a_text : ℕ → List ℕ → Value
   a_binary : ℕ → List ℕ → Value
   a_view : ℕ → List ℕ → Value
-  kind_alone : ℕ → Value
+  kind_alone : ℕ → DataType → Value
 
--- a slot of a node of a kind, whose bytes, if it has any, stand at a place
-abbrev pub handed_out : ℕ → ℕ → Slot → Value
-handed_out kind place null = null_mark
-handed_out kind place nothing = kind_alone kind
-handed_out kind place (boolean b) = a_boolean b
-handed_out kind place (number w n) = a_number w n
-handed_out kind place (float w n) = a_float w n
-handed_out kind place (text bytes) = a_text place bytes
-handed_out kind place (binary bytes) = a_binary place bytes
-handed_out kind place (view bytes) = a_view place bytes
-handed_out kind place (refer s) = kind_alone kind
-handed_out kind place (struct ss) = kind_alone kind
-handed_out kind place (sequence ss) = kind_alone kind
-handed_out kind place (entries es) = kind_alone kind
+-- a slot of a node of a kind and a type, whose bytes, if it has any, stand at a place
+abbrev pub handed_out : ℕ → DataType → ℕ → Slot → Value
+handed_out kind t place null = null_mark
+handed_out kind t place nothing = kind_alone kind t
+handed_out kind t place (boolean b) = a_boolean b
+handed_out kind t place (number w n) = a_number w n
+handed_out kind t place (float w n) = a_float w n
+handed_out kind t place (text bytes) = a_text place bytes
+handed_out kind t place (binary bytes) = a_binary place bytes
+handed_out kind t place (view bytes) = a_view place bytes
+handed_out kind t place (refer s) = kind_alone kind t
+handed_out kind t place (struct ss) = kind_alone kind t
+handed_out kind t place (sequence ss) = kind_alone kind t
+handed_out kind t place (entries es) = kind_alone kind t
 
 -- where the bytes of a row stand, of a type that has bytes
 abbrev pub bytes_place : DataType → List ℕ → Record → ℕ → ℕ
@@ -64,7 +64,7 @@ abbrev pub value_at : List ℕ → ℕ → ℕ → Value
 value_at bytes node row =
     elim (data_type (record_at bytes node)) [
       | None ↦ null_mark
-      | Some t ↦ handed_out (record_at bytes node).kind (bytes_place t bytes (record_at bytes node) row) (slot_at bytes node row)
+      | Some t ↦ handed_out (record_at bytes node).kind t (bytes_place t bytes (record_at bytes node) row) (slot_at bytes node row)
     ]
 
 -- the slot reader's answer: 13 where there is no such node, 17 where there is no such row
@@ -90,10 +90,10 @@ told variant.Null = null_mark
 told (variant.Boolean b) = a_boolean b
 told (variant.Number w n) = a_number (wide w) n
 told (variant.Float w n) = a_float (wide w) n
-told (variant.Text place bytes) = a_text place bytes.now
-told (variant.Binary place bytes) = a_binary place bytes.now
-told (variant.View place bytes) = a_view place bytes.now
-told (variant.Kind kind) = kind_alone kind
+told (variant.Text part) = a_text part.place part.bytes.now
+told (variant.Binary part) = a_binary part.place part.bytes.now
+told (variant.View part) = a_view part.place part.bytes.now
+told (variant.Kind t) = kind_alone (kind_of t) t
 
 -- the number of each refusal
 abbrev pub refusal : SlotFault → ℕ

@@ -6,7 +6,8 @@ ghost use Rattle.std.specs.Prelude.{◌≡◌, [], MatchResult};
 use crate::place::Image;
 use admission::check::check_image;
 use admission::fault::ImageFault;
-use layout::bytes::u32_at;
+use layout::bytes::Native;
+use layout::column::Column;
 use layout::record::Record;
 
 impl<'a> Image<'a> {
@@ -31,10 +32,10 @@ impl<'a> Image<'a> {
     pub fn node_count(&self) -> u32
         ensures { result ≡ nodes self.now.bytes.now }
     {
-        if self.bytes.len() == 0 {
+        if self.bytes.is_empty() {
             return 0;
         }
-        u32_at(self.bytes, 0)
+        u32::load(self.bytes, 0)
     }
 
     // The record of a node, or none where there is no such node.
@@ -51,10 +52,14 @@ impl<'a> Image<'a> {
     pub fn child(&self, node: u64, index: u64) -> Option<u32>
         ensures { result ≡ node_child self.now.bytes.now node index }
     {
-        let r = self.node(node)?;
-        if index >= u64::from(r.child_count()) {
+        let record = self.node(node)?;
+        if index >= u64::from(record.child_count()) {
             return None;
         }
-        Some(r.child(self.bytes, index as u32))
+        let column = Column {
+            bytes: self.bytes,
+            record,
+        };
+        Some(column.child(index as u32))
     }
 }

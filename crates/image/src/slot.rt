@@ -7,84 +7,99 @@ ghost use Rattle.image.specs.Slot.{Slot};
 ghost use Rattle.image.specs.Values.{answered, bytes_place, handed_out, told, value_answer};
 ghost use Rattle.admission.specs.Seams.{ViewThere};
 ghost use Rattle.layout.specs.Nodes.{HoldsBit, marked, reads_nulls};
+ghost use Rattle.layout.specs.Types.{kind_of};
 ghost use Rattle.layout.specs.Views.{view_length, view_place};
 
 use crate::place::Image;
-use crate::value::{SlotFault, SlotValue};
-use layout::bytes::{Width, bit_at, element_at, u32_at};
+use crate::value::{Part, SlotFault, SlotValue};
+use layout::bytes::{Native, Width, bit_at, element_at};
+use layout::column::Column;
 use layout::data_type::DataType;
-use layout::record::Record;
 
-// The bytes between a row's offset and the next, with their place.
-fn span_at<'a>(width: Width, bytes: &'a [u8], r: &Record, row: u32) -> (usize, &'a [u8])
-    requires { SpanThere width bytes.now r.now (r.now.start + row) }
-    ensures place { result.0 ≡ r.now.b + offset width bytes.now r.now (r.now.start + row) }
-    ensures bytes { result.1.now ≡ part bytes.now (r.now.b + offset width bytes.now r.now (r.now.start + row)) (span width bytes.now r.now (r.now.start + row)) }
+// The bytes between a row's offset and the next.
+pub fn span_at<'a>(column: &Column<'a>, width: Width, row: u32) -> Part<'a>
+    requires { SpanThere width column.now.bytes.now column.now.record (column.now.record.start + row) }
+    ensures place { result.place ≡ column.now.record.b + offset width column.now.bytes.now column.now.record (column.now.record.start + row) }
+    ensures bytes { result.bytes.now ≡ part column.now.bytes.now (column.now.record.b + offset width column.now.bytes.now column.now.record (column.now.record.start + row)) (span width column.now.bytes.now column.now.record (column.now.record.start + row)) }
 {
-    let at = r.start as usize + row as usize;
-    let from = r.b as usize + element_at(width, bytes, r.a as usize, at) as usize;
-    let to = r.b as usize + element_at(width, bytes, r.a as usize, at + 1) as usize;
-    (from, &bytes[from..to])
-}
-
-// The bytes of an unmarked view, with their place.
-fn view_at<'a>(bytes: &'a [u8], r: &Record, row: u32) -> (usize, &'a [u8])
-    requires there { ViewThere bytes.now r.now row }
-    requires unmarked { marked bytes.now r.now row ≡ false }
-    ensures place { result.0 ≡ view_bytes_place bytes.now r.now (view_place r.now row) }
-    ensures bytes { result.1.now ≡ part bytes.now (view_bytes_place bytes.now r.now (view_place r.now row)) (view_length bytes.now (view_place r.now row)) }
-{
-    let view = r.a as usize + 16 * (r.start as usize + row as usize);
-    let size = u32_at(bytes, view) as usize;
-    if size <= 12 {
-        return (view + 4, &bytes[view + 4..view + 4 + size]);
+    let data = column.record.b as usize;
+    let place = data + column.number(width, column.element(row)) as usize;
+    let end = data + column.number(width, column.element(row) + 1) as usize;
+    Part {
+        place,
+        bytes: &column.bytes[place..end],
     }
-    let pair = r.tab as usize + 8 * u32_at(bytes, view + 8) as usize;
-    let place = u32_at(bytes, pair) as usize + u32_at(bytes, view + 12) as usize;
-    (place, &bytes[place..place + size])
 }
 
-// The value of an unmarked row.
-fn unmarked_value<'a>(bytes: &'a [u8], t: DataType, r: &Record, row: u32) -> SlotValue<'a>
-    requires readable { Readable t bytes.now r.now row }
-    requires unmarked { (reads_nulls t && marked bytes.now r.now row) ≡ false }
-    ensures { (down : ℕ → ℕ → Slot) → told result ≡ handed_out r.now.kind (bytes_place t bytes.now r.now row) (unmarked t bytes.now r.now down row (r.now.start + row)) }
+// A row's bytes of a fixed size.
+pub fn fixed_at<'a>(column: &Column<'a>, size: u32, row: u32) -> Part<'a>
+    requires { column.now.record.a + size * (column.now.record.start + row) + size ≤ length column.now.bytes.now }
+    ensures place { result.place ≡ column.now.record.a + size * (column.now.record.start + row) }
+    ensures bytes { result.bytes.now ≡ part column.now.bytes.now (column.now.record.a + size * (column.now.record.start + row)) size }
 {
-    let at = r.start as usize + row as usize;
+    let size = size as usize;
+    let place = column.record.a as usize + size * column.element(row);
+    Part {
+        place,
+        bytes: &column.bytes[place..place + size],
+    }
+}
+
+// The bytes of an unmarked view.
+fn view_at<'a>(column: &Column<'a>, row: u32) -> Part<'a>
+    requires there { ViewThere column.now.bytes.now column.now.record row }
+    requires unmarked { marked column.now.bytes.now column.now.record row ≡ false }
+    ensures place { result.place ≡ view_bytes_place column.now.bytes.now column.now.record (view_place column.now.record row) }
+    ensures bytes { result.bytes.now ≡ part column.now.bytes.now (view_bytes_place column.now.bytes.now column.now.record (view_place column.now.record row)) (view_length column.now.bytes.now (view_place column.now.record row)) }
+{
+    let bytes = column.bytes;
+    let view = column.view_place(row);
+    let size = u32::load(bytes, view) as usize;
+    if size <= 12 {
+        let place = view + 4;
+        return Part {
+            place,
+            bytes: &bytes[place..place + size],
+        };
+    }
+    let place = column.long_view_place(view);
+    Part {
+        place,
+        bytes: &bytes[place..place + size],
+    }
+}
+
+// The value of an unmarked row. The type goes beside the column: a record may have none.
+fn unmarked_value<'a>(column: &Column<'a>, t: DataType, row: u32) -> SlotValue<'a>
+    requires readable { Readable t column.now.bytes.now column.now.record row }
+    requires unmarked { (reads_nulls t && marked column.now.bytes.now column.now.record row) ≡ false }
+    ensures { (down : ℕ → ℕ → Slot) → told result ≡ handed_out (kind_of t) t (bytes_place t column.now.bytes.now column.now.record row) (unmarked t column.now.bytes.now column.now.record down row (column.now.record.start + row)) }
+{
+    let at = column.element(row);
     match t {
-        DataType::Boolean => SlotValue::Boolean(bit_at(bytes, r.a as usize, at)),
-        DataType::Number(w) => SlotValue::Number(w, element_at(w, bytes, r.a as usize, at)),
-        DataType::Float(w) => SlotValue::Float(w, element_at(w, bytes, r.a as usize, at)),
-        DataType::Utf8(w) => {
-            let (place, text) = span_at(w, bytes, r, row);
-            SlotValue::Text(place, text)
+        DataType::Boolean => {
+            SlotValue::Boolean(bit_at(column.bytes, column.record.a as usize, at))
         }
-        DataType::Binary(w) => {
-            let (place, part) = span_at(w, bytes, r, row);
-            SlotValue::Binary(place, part)
-        }
-        DataType::FixedSizeBinary(size) => {
-            let place = r.a as usize + size as usize * at;
-            SlotValue::Binary(place, &bytes[place..place + size as usize])
-        }
-        DataType::View => {
-            let (place, part) = view_at(bytes, r, row);
-            SlotValue::View(place, part)
-        }
-        _ => SlotValue::Kind(r.kind),
+        DataType::Number(w) => SlotValue::Number(w, column.number(w, at)),
+        DataType::Float(w) => SlotValue::Float(w, column.number(w, at)),
+        DataType::Utf8(w) => SlotValue::Text(span_at(column, w, row)),
+        DataType::Binary(w) => SlotValue::Binary(span_at(column, w, row)),
+        DataType::FixedSizeBinary(size) => SlotValue::Binary(fixed_at(column, size, row)),
+        DataType::View => SlotValue::View(view_at(column, row)),
+        _ => SlotValue::Kind(t),
     }
 }
 
 // The value of a row: the null mark, or the value.
-fn value<'a>(bytes: &'a [u8], t: DataType, r: &Record, row: u32) -> SlotValue<'a>
-    requires bit { reads_nulls t ≡ true → HoldsBit bytes.now r.now row }
-    requires readable { Readable t bytes.now r.now row }
-    ensures { (down : ℕ → ℕ → Slot) → told result ≡ handed_out r.now.kind (bytes_place t bytes.now r.now row) (typed_slot t bytes.now r.now down row) }
+fn value<'a>(column: &Column<'a>, t: DataType, row: u32) -> SlotValue<'a>
+    requires bit { reads_nulls t ≡ true → HoldsBit column.now.bytes.now column.now.record row }
+    requires readable { Readable t column.now.bytes.now column.now.record row }
+    ensures { (down : ℕ → ℕ → Slot) → told result ≡ handed_out (kind_of t) t (bytes_place t column.now.bytes.now column.now.record row) (typed_slot t column.now.bytes.now column.now.record down row) }
 {
-    if t.reads_nulls() && r.is_marked(bytes, row) {
+    if column.is_null(t, row) {
         return SlotValue::Null;
     }
-    unmarked_value(bytes, t, r, row)
+    unmarked_value(column, t, row)
 }
 
 impl<'a> Image<'a> {
@@ -93,17 +108,17 @@ impl<'a> Image<'a> {
         ensures answer { answered result ≡ value_answer self.now.bytes.now node row }
         ensures levels { DeepEnough self.now.bytes.now node row }
     {
-        if node >= u64::from(self.node_count()) {
-            return Err(SlotFault::NoNode);
-        }
-        let bytes = self.bytes;
-        let r = Record::read(bytes, node as usize);
-        if row >= u64::from(r.rows) {
+        let record = self.node(node).ok_or(SlotFault::NoNode)?;
+        if row >= u64::from(record.rows) {
             return Err(SlotFault::NoRow);
         }
-        let Some(t) = r.data_type() else {
+        let Some(t) = record.data_type() else {
             unreachable()
         };
-        Ok(value(bytes, t, &r, row as u32))
+        let column = Column {
+            bytes: self.bytes,
+            record,
+        };
+        Ok(value(&column, t, row as u32))
     }
 }

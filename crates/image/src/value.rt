@@ -3,18 +3,26 @@ ghost use Rattle.image.specs.Values.{refusal};
 ghost use Rattle.std.specs.Prelude.{◌≡◌};
 
 use layout::bytes::Width;
+use layout::data_type::DataType;
 
-// A slot as it is handed out: bytes are a part of the image, with their place.
+// A part of the image, with its place.
+#[derive(Clone, Copy)]
+pub struct Part<'a> {
+    pub place: usize,
+    pub bytes: &'a [u8],
+}
+
+// A slot as it is handed out: bytes are a part of the image, and other slots than values are told by their column's type.
 #[derive(Clone, Copy)]
 pub enum SlotValue<'a> {
     Null,
     Boolean(bool),
     Number(Width, u64),
     Float(Width, u64),
-    Text(usize, &'a [u8]),
-    Binary(usize, &'a [u8]),
-    View(usize, &'a [u8]),
-    Kind(u32),
+    Text(Part<'a>),
+    Binary(Part<'a>),
+    View(Part<'a>),
+    Kind(DataType),
 }
 
 #[derive(Clone, Copy, Debug)]
@@ -24,7 +32,7 @@ pub enum SlotFault {
 }
 
 impl SlotFault {
-    // The rejection's number.
+    // The rejection's number. No `From`: it names the refusal, and is not made of it.
     pub fn number(self) -> u32
         ensures { result ≡ refusal self }
     {

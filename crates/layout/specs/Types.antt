@@ -39,3 +39,21 @@ data_type r =
     (cond (r.kind == 15) (given (nat_le r.p 65535) (Some (FixedSizeList r.p)))
     (cond (r.kind == 16) (option_map RunEnd (width r.p 2))
     None))))))))))))))
+
+-- the KIND of each type
+abbrev pub kind_of : DataType → ℕ
+kind_of Null = 1
+kind_of Boolean = 2
+kind_of (Number w) = 3
+kind_of (Float w) = 4
+kind_of (Utf8 w) = 6
+kind_of (Binary w) = 7
+kind_of (FixedSizeBinary p) = 8
+kind_of View = 9
+kind_of (Dictionary w signed) = 10
+kind_of Struct = 11
+kind_of (List w) = 12
+kind_of (ListView w) = 13
+kind_of Map = 14
+kind_of (FixedSizeList p) = 15
+kind_of (RunEnd w) = 16

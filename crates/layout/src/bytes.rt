@@ -1,7 +1,9 @@
 // Little-endian numbers and bits, read where they stand: one load for one number.
-ghost use Rattle.std.specs.Prelude.{◌≡◌, ◌+◌, ◌*◌, ◌/◌, ◌<◌, ◌≤◌, length};
+ghost use Rattle.std.specs.Prelude.{◌≡◌, ℕ, ◌+◌, ◌*◌, ◌/◌, ◌<◌, ◌≤◌, length};
 ghost use Rattle.layout.specs.Bytes.{bit, field, negative, wide};
 ghost use Rattle.layout.specs.Nodes.{element};
+ghost use Rattle.layout.specs.declared.bytes.Width.{Width};
+ghost use Rattle.layout.specs.declared.bytes.Width.TheVariants.{One, Two, Four, Eight};
 
 // How many bytes a number, an offset, a key or a run end has.
 #[derive(Clone, Copy)]
@@ -37,39 +39,70 @@ impl Width {
     }
 }
 
-pub fn u16_at(bytes: &[u8], place: usize) -> u16
-    requires { place + 2 ≤ length bytes.now }
-    ensures { result ≡ field 2 bytes.now place }
-{
-    u16::from_le_bytes([bytes[place], bytes[place + 1]])
+// Unsigned numbers as they stand in an image, the lowest byte first. An impl for each width: how many bytes there are is
+// part of an array's type.
+pub trait Native: Sized {
+    ghost width: { Width };
+
+    ghost value: { Self → ℕ };
+
+    fn load(bytes: &[u8], place: usize) -> Self
+        requires { place + wide width ≤ length bytes.now }
+        ensures { value result ≡ field (wide width) bytes.now place };
 }
 
-pub fn u32_at(bytes: &[u8], place: usize) -> u32
-    requires { place + 4 ≤ length bytes.now }
-    ensures { result ≡ field 4 bytes.now place }
-{
-    u32::from_le_bytes([
-        bytes[place],
-        bytes[place + 1],
-        bytes[place + 2],
-        bytes[place + 3],
-    ])
+impl Native for u8 {
+    ghost width = { One };
+
+    ghost value = { λ n. n };
+
+    fn load(bytes: &[u8], place: usize) -> u8 {
+        u8::from_le_bytes([bytes[place]])
+    }
 }
 
-pub fn u64_at(bytes: &[u8], place: usize) -> u64
-    requires { place + 8 ≤ length bytes.now }
-    ensures { result ≡ field 8 bytes.now place }
-{
-    u64::from_le_bytes([
-        bytes[place],
-        bytes[place + 1],
-        bytes[place + 2],
-        bytes[place + 3],
-        bytes[place + 4],
-        bytes[place + 5],
-        bytes[place + 6],
-        bytes[place + 7],
-    ])
+impl Native for u16 {
+    ghost width = { Two };
+
+    ghost value = { λ n. n };
+
+    fn load(bytes: &[u8], place: usize) -> u16 {
+        u16::from_le_bytes([bytes[place], bytes[place + 1]])
+    }
+}
+
+impl Native for u32 {
+    ghost width = { Four };
+
+    ghost value = { λ n. n };
+
+    fn load(bytes: &[u8], place: usize) -> u32 {
+        u32::from_le_bytes([
+            bytes[place],
+            bytes[place + 1],
+            bytes[place + 2],
+            bytes[place + 3],
+        ])
+    }
+}
+
+impl Native for u64 {
+    ghost width = { Eight };
+
+    ghost value = { λ n. n };
+
+    fn load(bytes: &[u8], place: usize) -> u64 {
+        u64::from_le_bytes([
+            bytes[place],
+            bytes[place + 1],
+            bytes[place + 2],
+            bytes[place + 3],
+            bytes[place + 4],
+            bytes[place + 5],
+            bytes[place + 6],
+            bytes[place + 7],
+        ])
+    }
 }
 
 pub fn word_at(width: Width, bytes: &[u8], place: usize) -> u64
@@ -77,10 +110,10 @@ pub fn word_at(width: Width, bytes: &[u8], place: usize) -> u64
     ensures { result ≡ field (wide width) bytes.now place }
 {
     match width {
-        Width::One => u64::from(bytes[place]),
-        Width::Two => u64::from(u16_at(bytes, place)),
-        Width::Four => u64::from(u32_at(bytes, place)),
-        Width::Eight => u64_at(bytes, place),
+        Width::One => u64::from(u8::load(bytes, place)),
+        Width::Two => u64::from(u16::load(bytes, place)),
+        Width::Four => u64::from(u32::load(bytes, place)),
+        Width::Eight => u64::load(bytes, place),
     }
 }
 

@@ -1,6 +1,6 @@
 // The type of a column, by the Arrow Columnar Format.
 ghost use Rattle.layout.specs.Nodes.{child_count, listed, reads_nulls, table};
-ghost use Rattle.layout.specs.Types.{data_type, width};
+ghost use Rattle.layout.specs.Types.{data_type, kind_of, width};
 ghost use Rattle.std.specs.Prelude.{◌≡◌};
 
 use crate::bytes::Width;
@@ -16,6 +16,7 @@ pub enum DataType {
     Binary(Width),
     FixedSizeBinary(u32),
     View,
+    // Whether keys are signed, as Arrow's own flag of an integer type.
     Dictionary(Width, bool),
     Struct,
     List(Width),
@@ -35,6 +36,29 @@ pub enum Table {
 }
 
 impl DataType {
+    // Its KIND.
+    pub fn kind(self) -> u32
+        ensures { result ≡ kind_of self }
+    {
+        match self {
+            DataType::Null => 1,
+            DataType::Boolean => 2,
+            DataType::Number(_) => 3,
+            DataType::Float(_) => 4,
+            DataType::Utf8(_) => 6,
+            DataType::Binary(_) => 7,
+            DataType::FixedSizeBinary(_) => 8,
+            DataType::View => 9,
+            DataType::Dictionary(_, _) => 10,
+            DataType::Struct => 11,
+            DataType::List(_) => 12,
+            DataType::ListView(_) => 13,
+            DataType::Map => 14,
+            DataType::FixedSizeList(_) => 15,
+            DataType::RunEnd(_) => 16,
+        }
+    }
+
     pub fn table(self) -> Table
         ensures { result ≡ table self }
     {
@@ -72,7 +96,7 @@ impl Table {
 }
 
 impl Width {
-    // The width of p bytes, of which there are at least so many.
+    // The width of p bytes, of which there are at least so many. No `TryFrom`: what is least stands beside the number.
     pub fn of(p: u32, least: u32) -> Option<Width>
         ensures { result ≡ width p least }
     {
@@ -87,7 +111,8 @@ impl Width {
 }
 
 impl Record {
-    // The type that KIND, P and B tell, or none where they stand in no line of the table.
+    // The type that KIND, P and B tell, or none where they stand in no line of the table. No `TryFrom`: there is one way
+    // to fail, which has no name of its own, and each caller refuses it in its own words.
     pub fn data_type(&self) -> Option<DataType>
         ensures { result ≡ data_type self.now }
     {
@@ -116,9 +141,7 @@ impl Record {
     pub fn child_count(&self) -> u32
         ensures { result ≡ child_count (data_type self.now) self.now }
     {
-        match self.data_type() {
-            Some(data_type) => data_type.table().listed(self.cnt),
-            None => 0,
-        }
+        self.data_type()
+            .map_or(0, |data_type| data_type.table().listed(self.cnt))
     }
 }

@@ -2,5 +2,6 @@
 #![tactic(auto)]
 
 pub mod bytes;
+pub mod column;
 pub mod data_type;
 pub mod record;

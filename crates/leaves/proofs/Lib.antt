@@ -1,5 +1,3 @@
 pub mod Padded
 pub mod Steps
 pub mod Told
-pub mod Typed
-pub mod Wide

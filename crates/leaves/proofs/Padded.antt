@@ -118,16 +118,15 @@ module _ (bytes : List ℕ) (r : Record) (row : ℕ) (there : ViewThere bytes r 
       ∙ inline_writes bytes v there.1 few pad
       ∙ ap (λ (p : ℕ). view_writes (part bytes p (view_length bytes v))) (sym (cond-false (is_long bytes v) _ (v + 4) is-short))
 
-  pub long_told : (buffer start offset : ℕ) → 12 < size → buffer ≡ field 4 bytes (place + 8) → start ≡ field 4 bytes (r.tab + 8 * buffer) → offset ≡ field 4 bytes (place + 12)
-      → tell.binary (part bytes (start + offset) (start + offset + size - (start + offset))) ≡ view_writes viewed
-  long_told buffer start offset long b s o =
+  pub long_told : (start : ℕ) → 12 < size → start ≡ buffer_place bytes r (view_buffer bytes place) + view_offset bytes place
+      → tell.binary (part bytes start (start + size - start)) ≡ view_writes viewed
+  long_told start long d =
       let more : 12 < view_length bytes v = subst (λ (n : ℕ). 12 < n) size_is long in
       let is-far : is_long bytes v ≡ true = lt-ltb 12 (view_length bytes v) more in
       let far : ℕ = buffer_place bytes r (view_buffer bytes v) + view_offset bytes v in
       let at : far ≡ view_bytes_place bytes r v = sym (cond-true (is_long bytes v) far (v + 4) is-far) in
-      let begun : start ≡ buffer_place bytes r (view_buffer bytes v) = s ∙ ap (buffer_place bytes r) (b ∙ ap (λ (p : ℕ). field 4 bytes (p + 8)) placed) in
-      let from : start + offset ≡ view_bytes_place bytes r v = ap₂ ◌+◌ begun (o ∙ ap (λ (p : ℕ). field 4 bytes (p + 12)) placed) ∙ at in
-      let count : start + offset + size - (start + offset) ≡ size = omega arith in
+      let from : start ≡ view_bytes_place bytes r v = d ∙ ap (λ (p : ℕ). buffer_place bytes r (view_buffer bytes p) + view_offset bytes p) placed ∙ at in
+      let count : start + size - start ≡ size = omega arith in
       let inside : view_bytes_place bytes r v + view_length bytes v ≤ length bytes =
       subst (λ (p : ℕ). p + view_length bytes v ≤ length bytes) at (there.2 unmarked is-far).1 in
       ap₂ (λ (p n : ℕ). tell.binary (part bytes p n)) from (count ∙ size_is) ∙ long_writes bytes (view_bytes_place bytes r v) (view_length bytes v) inside more

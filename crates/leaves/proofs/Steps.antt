@@ -1,6 +1,6 @@
 -- One turn of the loop that maps entries in place, by their places.
 use Rattle.std.proofs.Common.{◌≡◌, ℕ, ◌+◌, ◌<◌, ◌≤◌, Bool, true, false, List, [], ◌∷◌, ◌++◌, length, get_or, take, drop, set, sym, ap, ◌∙◌, append_assoc, append-nil, arith}
-use Rattle.std.proofs.lemmas.List.{take_more, take_more_set, drop-set-lt, at_drop_more, at_drop_all, take_all}
+use Rattle.std.proofs.lemmas.List.{take_more_set, drop-set-lt, at_drop_more, at_drop_all, take_all}
 use Rattle.hash_state.specs.Combine.{later}
 use Rattle.hash_state.specs.Writes.{Write}
 use Rattle.image.specs.Slot.{Slot, null}
@@ -23,9 +23,6 @@ module _ (f : ℕ → ℕ → ℕ) (es : List ℕ) (i : ℕ) (within : i < lengt
   made_written y e =
       let lt : i < i + 1 = omega arith in
       rw (take_more_set es i y within, drop-set-lt (i + 1) es i y lt) (left y e)
-
-  pub made_kept : get_or es i 0 ≡ f i (get_or es i 0) → Made f (i + 1) es ≡ Made f i es
-  made_kept e = rw (take_more es i 0 within) (left (get_or es i 0) e)
 
 pub made_all : (f : ℕ → ℕ → ℕ) (es : List ℕ) (i : ℕ) → length es ≤ i → Made f i es ≡ es
 made_all f es i h =

@@ -3,92 +3,53 @@ ghost use Rattle.std.specs.Prelude.{◌≡◌, ◌+◌};
 ghost use Rattle.image.specs.Read.{offset, part, span};
 ghost use Rattle.image.specs.Seams.{SpanThere};
 ghost use Rattle.layout.specs.declared.data_type.DataType.TheVariants.{Utf8, Binary as binary_type, FixedSizeBinary};
-ghost use Rattle.leaves.specs.Rows.{LeafRow};
-ghost use Rattle.leaves.specs.Tells.{leaf_slot};
 
-use crate::accessor::Accessor;
-use crate::column::Column;
+use crate::reader::Reader;
 use hash_state::{Binary, Text};
-use layout::bytes::{Width, element_at};
+use image::slot::{fixed_at, span_at};
+use layout::bytes::Width;
+use layout::column::Column;
 
-impl<'a> Column<'a> {
-    // The bytes between a row's offset and the next.
-    fn span(&self, width: Width, row: u32) -> &'a [u8]
-        requires { SpanThere width self.now.bytes.now self.now.record (self.now.record.start + row) }
-        ensures { result.now ≡ part self.now.bytes.now (self.now.record.b + offset width self.now.bytes.now self.now.record (self.now.record.start + row)) (span width self.now.bytes.now self.now.record (self.now.record.start + row)) }
-    {
-        let bytes = self.bytes;
-        let (a, b) = (self.record.a as usize, self.record.b as usize);
-        let at = self.element(row);
-        let from = b + element_at(width, bytes, a, at) as usize;
-        let to = b + element_at(width, bytes, a, at + 1) as usize;
-        &bytes[from..to]
-    }
-}
-
+// Texts and byte strings are a reader each: one for both would ask for a trait with two laws, for two lines of code.
 #[derive(Drop)]
-pub(crate) struct Texts<'a> {
-    pub column: Column<'a>,
-    pub width: Width,
-}
+pub(crate) struct Texts(pub Width);
 
-impl<'a> Accessor for Texts<'a> {
+impl<'a> Reader<'a> for Texts {
     type Item = Text<'a>;
 
-    ghost ready = { λ s row. LeafRow s.column.bytes.now (Utf8 s.width) s.column.record row };
+    ghost data_type = { λ s. Utf8 s.0 };
 
-    ghost slot_of = { λ s row. leaf_slot (Utf8 s.width) s.column.bytes.now s.column.record row };
-
-    fn value(&self, row: u32) -> Option<Text<'a>> {
-        if self.column.is_null(row) {
-            return None;
-        }
-        Some(Text(self.column.span(self.width, row)))
+    #[tactic(auto, using(crate::proofs::Told::told_text))]
+    fn value(&self, column: &Column<'a>, row: u32) -> Text<'a> {
+        Text(span_at(column, self.0, row).bytes)
     }
 }
 
 #[derive(Drop)]
-pub(crate) struct Binaries<'a> {
-    pub column: Column<'a>,
-    pub width: Width,
-}
+pub(crate) struct Binaries(pub Width);
 
-impl<'a> Accessor for Binaries<'a> {
+impl<'a> Reader<'a> for Binaries {
     type Item = Binary<'a>;
 
-    ghost ready = { λ s row. LeafRow s.column.bytes.now (binary_type s.width) s.column.record row };
+    ghost data_type = { λ s. binary_type s.0 };
 
-    ghost slot_of = { λ s row. leaf_slot (binary_type s.width) s.column.bytes.now s.column.record row };
-
-    fn value(&self, row: u32) -> Option<Binary<'a>> {
-        if self.column.is_null(row) {
-            return None;
-        }
-        Some(Binary(self.column.span(self.width, row)))
+    #[tactic(auto, using(crate::proofs::Told::told_binary))]
+    fn value(&self, column: &Column<'a>, row: u32) -> Binary<'a> {
+        Binary(span_at(column, self.0, row).bytes)
     }
 }
 
 // Byte strings of one size.
 #[derive(Drop)]
-pub(crate) struct FixedBinaries<'a> {
-    pub column: Column<'a>,
-    pub size: u32,
-}
+pub(crate) struct FixedBinaries(pub u32);
 
-impl<'a> Accessor for FixedBinaries<'a> {
+impl<'a> Reader<'a> for FixedBinaries {
     type Item = Binary<'a>;
 
-    ghost ready = { λ s row. LeafRow s.column.bytes.now (FixedSizeBinary s.size) s.column.record row };
+    ghost data_type = { λ s. FixedSizeBinary s.0 };
 
-    ghost slot_of = { λ s row. leaf_slot (FixedSizeBinary s.size) s.column.bytes.now s.column.record row };
-
-    fn value(&self, row: u32) -> Option<Binary<'a>> {
-        if self.column.is_null(row) {
-            return None;
-        }
-        let size = self.size as usize;
-        let bytes = self.column.bytes;
-        let place = self.column.record.a as usize + size * self.column.element(row);
-        Some(Binary(&bytes[place..place + size]))
+    #[tactic(auto, using(crate::proofs::Told::told_binary))]
+    fn value(&self, column: &Column<'a>, row: u32) -> Binary<'a> {
+        Binary(fixed_at(column, self.0, row).bytes)
     }
 }

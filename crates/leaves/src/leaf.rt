@@ -1,120 +1,62 @@
 // The hashes of a leaf's rows, by its type.
-ghost use Rattle.std.specs.Prelude.{◌≡◌, ℕ, ◌+◌, ◌^◌, ◌<◌, true, length, Some, ◌≢◌};
+ghost use Rattle.std.specs.Prelude.{◌≡◌, ℕ, ◌+◌, ◌^◌, ◌<◌, true, length, Some};
 ghost use Rattle.image.specs.Read.{typed_slot};
 ghost use Rattle.image.specs.Slot.{Slot};
 ghost use Rattle.layout.specs.Types.{data_type};
-ghost use Rattle.layout.specs.declared.bytes.Width.TheVariants.{One};
-ghost use Rattle.layout.specs.declared.data_type.DataType.TheVariants.{Number, Float};
 ghost use Rattle.leaves.specs.Rows.{LeafRow, RowsFor, by_place, is_leaf, row_of};
-ghost use Rattle.leaves.specs.Tells.{leaf_slot};
 ghost use Rattle.row_rule.specs.Number.{number_of};
 
-use crate::array::hash_rows;
 use crate::bytes::{Binaries, FixedBinaries, Texts};
-use crate::column::{Booleans, Column, Nothings};
-use crate::primitive::hash_primitives;
+use crate::hashing::Hashing;
+use crate::number::{Floats, Numbers};
+use crate::reader::{Booleans, Nothings};
+use crate::rows::Rows;
 use crate::view::Views;
-use hash_state::{BuildHasher, Float16, Float32, Float64, HashState};
+use hash_state::HashState;
 use layout::bytes::Width;
+use layout::column::Column;
 use layout::data_type::DataType;
-use layout::record::Record;
+use std::marker::PhantomData;
 
-// Numbers of each width.
-fn hash_numbers<S: HashState>(
-    column: Column<'_>,
-    width: Width,
-    lo: u32,
-    rows: Option<&[u32]>,
-    state: &S,
-    entries: &mut [u64],
-    first: bool,
-)
-    requires readable { (j : ℕ) → j < length entries.old → LeafRow column.bytes.now (Number width) column.record (row_of lo rows j) }
-    requires listed { RowsFor rows (length entries.old) }
-    requires fits { lo + length entries.old < 2 ^ 32 }
-    ensures { entries.new ≡ by_place (λ j e. number_of (S.BuildHasher.one state.now) (S.HashState.seeded state.now) first e (leaf_slot (Number width) column.entry.bytes.now column.entry.record (row_of lo rows.entry j))) 0 entries.old }
-{
-    match width {
-        Width::One => hash_primitives::<u8, S>(column, lo, rows, state, entries, first),
-        Width::Two => hash_primitives::<u16, S>(column, lo, rows, state, entries, first),
-        Width::Four => hash_primitives::<u32, S>(column, lo, rows, state, entries, first),
-        Width::Eight => hash_primitives::<u64, S>(column, lo, rows, state, entries, first),
-    }
-}
-
-// Floats of each width; none has one byte.
-fn hash_floats<S: HashState>(
-    column: Column<'_>,
-    width: Width,
-    lo: u32,
-    rows: Option<&[u32]>,
-    state: &S,
-    entries: &mut [u64],
-    first: bool,
-)
-    requires wide { width ≢ One }
-    requires readable { (j : ℕ) → j < length entries.old → LeafRow column.bytes.now (Float width) column.record (row_of lo rows j) }
-    requires listed { RowsFor rows (length entries.old) }
-    requires fits { lo + length entries.old < 2 ^ 32 }
-    ensures { entries.new ≡ by_place (λ j e. number_of (S.BuildHasher.one state.now) (S.HashState.seeded state.now) first e (leaf_slot (Float width) column.entry.bytes.now column.entry.record (row_of lo rows.entry j))) 0 entries.old }
-{
-    match width {
-        Width::One => unreachable(),
-        Width::Two => hash_primitives::<Float16, S>(column, lo, rows, state, entries, first),
-        Width::Four => hash_primitives::<Float32, S>(column, lo, rows, state, entries, first),
-        Width::Eight => hash_primitives::<Float64, S>(column, lo, rows, state, entries, first),
-    }
-}
-
-// Each word at the row that it meets, one of a list or the one so far from `lo`, by the row rule.
+// Each word at the row that it meets, by the row rule.
 pub fn hash_leaf<S: HashState>(
-    bytes: &[u8],
+    column: Column<'_>,
     t: DataType,
-    r: &Record,
-    lo: u32,
-    rows: Option<&[u32]>,
+    rows: Rows<'_>,
     state: &S,
     entries: &mut [u64],
     first: bool,
 )
     requires leaf { is_leaf t ≡ true }
-    requires typed { Some t ≡ data_type r.now }
-    requires readable { (j : ℕ) → j < length entries.old → LeafRow bytes.now t r.now (row_of lo rows j) }
-    requires listed { RowsFor rows (length entries.old) }
-    requires fits { lo + length entries.old < 2 ^ 32 }
-    ensures { (down : ℕ → ℕ → Slot) → entries.new ≡ by_place (λ j e. number_of (S.BuildHasher.one state.now) (S.HashState.seeded state.now) first e (typed_slot t bytes.now r.now down (row_of lo rows.entry j))) 0 entries.old }
+    requires typed { Some t ≡ data_type column.record }
+    requires readable { (j : ℕ) → j < length entries.old → LeafRow column.bytes.now t column.record (row_of rows.lo rows.list j) }
+    requires listed { RowsFor rows.list (length entries.old) }
+    requires fits { rows.lo + length entries.old < 2 ^ 32 }
+    ensures { (down : ℕ → ℕ → Slot) → entries.new ≡ by_place (λ j e. number_of (S.BuildHasher.one state.now) (S.HashState.seeded state.now) first e (typed_slot t column.entry.bytes.now column.entry.record down (row_of rows.entry.lo rows.entry.list j))) 0 entries.old }
 {
-    let column = Column { bytes, record: *r };
+    let hashing = Hashing {
+        column,
+        data_type: t,
+        rows,
+        state,
+        first,
+    };
     match t {
-        DataType::Null => hash_rows(&Nothings(column), lo, rows, state, entries, first),
-        DataType::Boolean => hash_rows(&Booleans(column), lo, rows, state, entries, first),
-        DataType::Number(width) => hash_numbers(column, width, lo, rows, state, entries, first),
-        DataType::Float(width) => hash_floats(column, width, lo, rows, state, entries, first),
-        DataType::Utf8(width) => hash_rows(
-            &Texts { column, width },
-            lo,
-            rows,
-            state,
-            entries,
-            first,
-        ),
-        DataType::Binary(width) => hash_rows(
-            &Binaries { column, width },
-            lo,
-            rows,
-            state,
-            entries,
-            first,
-        ),
-        DataType::FixedSizeBinary(size) => hash_rows(
-            &FixedBinaries { column, size },
-            lo,
-            rows,
-            state,
-            entries,
-            first,
-        ),
-        DataType::View => hash_rows(&Views(column), lo, rows, state, entries, first),
+        DataType::Null => hashing.run(&Nothings, entries),
+        DataType::Boolean => hashing.run(&Booleans, entries),
+        DataType::Number(Width::One) => hashing.run(&Numbers(PhantomData::<u8>), entries),
+        DataType::Number(Width::Two) => hashing.run(&Numbers(PhantomData::<u16>), entries),
+        DataType::Number(Width::Four) => hashing.run(&Numbers(PhantomData::<u32>), entries),
+        DataType::Number(Width::Eight) => hashing.run(&Numbers(PhantomData::<u64>), entries),
+        // No float has one byte.
+        DataType::Float(Width::One) => unreachable(),
+        DataType::Float(Width::Two) => hashing.run(&Floats(PhantomData::<u16>), entries),
+        DataType::Float(Width::Four) => hashing.run(&Floats(PhantomData::<u32>), entries),
+        DataType::Float(Width::Eight) => hashing.run(&Floats(PhantomData::<u64>), entries),
+        DataType::Utf8(width) => hashing.run(&Texts(width), entries),
+        DataType::Binary(width) => hashing.run(&Binaries(width), entries),
+        DataType::FixedSizeBinary(size) => hashing.run(&FixedBinaries(size), entries),
+        DataType::View => hashing.run(&Views, entries),
         _ => unreachable(),
     }
 }

@@ -1,12 +1,13 @@
 // The hashes of leaf columns, whose rows stand for no other rows.
 #![tactic(auto)]
 
-mod accessor;
-mod array;
 mod bytes;
-mod column;
+mod hashing;
 mod leaf;
-mod primitive;
+mod number;
+mod reader;
+mod rows;
 mod view;
 
 pub use leaf::hash_leaf;
+pub use rows::Rows;

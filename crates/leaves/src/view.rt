@@ -1,55 +1,28 @@
 // Columns of views.
-ghost use Rattle.std.specs.Prelude.{◌≡◌, ◌+◌, false};
-ghost use Rattle.admission.specs.Rejections.{bad_view};
-ghost use Rattle.admission.specs.Seams.{ViewThere};
-ghost use Rattle.hash_state.specs.View.{view as told};
-ghost use Rattle.image.specs.Read.{part, view_bytes_place};
-ghost use Rattle.layout.specs.Nodes.{marked};
-ghost use Rattle.layout.specs.Views.{view_length, view_place};
 ghost use Rattle.layout.specs.declared.data_type.DataType.TheVariants.{View as view_type};
-ghost use Rattle.leaves.specs.Rows.{LeafRow};
-ghost use Rattle.leaves.specs.Tells.{leaf_slot};
-ghost use Rattle.row_rule.specs.Number.{view_writes};
 
-use crate::accessor::Accessor;
-use crate::column::Column;
+use crate::reader::Reader;
 use hash_state::View;
-use layout::bytes::{u32_at, u64_at};
-
-impl<'a> Column<'a> {
-    // An unmarked view. Up to 12 bytes stand in the view itself, with zeros behind them.
-    fn view(&self, row: u32) -> View<'a>
-        requires there { ViewThere self.now.bytes.now self.now.record row }
-        requires unmarked { marked self.now.bytes.now self.now.record row ≡ false }
-        requires padded { bad_view self.now.bytes.now self.now.record row (view_place self.now.record row) ≡ false }
-        ensures { told result ≡ view_writes (part self.now.bytes.now (view_bytes_place self.now.bytes.now self.now.record (view_place self.now.record row)) (view_length self.now.bytes.now (view_place self.now.record row))) }
-    {
-        let bytes = self.bytes;
-        let view = self.record.a as usize + 16 * self.element(row);
-        let size = u32_at(bytes, view) as usize;
-        if size <= 12 {
-            return View::Inline(u64_at(bytes, view), u64_at(bytes, view + 8));
-        }
-        let pair = self.record.tab as usize + 8 * u32_at(bytes, view + 8) as usize;
-        let place = u32_at(bytes, pair) as usize + u32_at(bytes, view + 12) as usize;
-        View::Long(&bytes[place..place + size])
-    }
-}
+use layout::bytes::Native;
+use layout::column::Column;
 
 #[derive(Drop)]
-pub(crate) struct Views<'a>(pub Column<'a>);
+pub(crate) struct Views;
 
-impl<'a> Accessor for Views<'a> {
+impl<'a> Reader<'a> for Views {
     type Item = View<'a>;
 
-    ghost ready = { λ s row. LeafRow s.0.bytes.now view_type s.0.record row };
+    ghost data_type = { λ _. view_type };
 
-    ghost slot_of = { λ s row. leaf_slot view_type s.0.bytes.now s.0.record row };
-
-    fn value(&self, row: u32) -> Option<View<'a>> {
-        if self.0.is_null(row) {
-            return None;
+    // Up to 12 bytes stand in the view itself, with zeros behind them.
+    fn value(&self, column: &Column<'a>, row: u32) -> View<'a> {
+        let bytes = column.bytes;
+        let view = column.view_place(row);
+        let size = u32::load(bytes, view) as usize;
+        if size <= 12 {
+            return View::Inline(u64::load(bytes, view), u64::load(bytes, view + 8));
         }
-        Some(self.0.view(row))
+        let place = column.long_view_place(view);
+        View::Long(&bytes[place..place + size])
     }
 }

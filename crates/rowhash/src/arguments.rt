@@ -12,12 +12,10 @@ pub enum Invocation {
 }
 
 impl Invocation {
-    // The program's own name comes first.
+    // The program's own name comes first. No `TryFrom`: arguments are read one after the other, and used up.
     pub(crate) fn parse(mut args: Args) -> Result<Invocation, Failure> {
         let _ = args.next();
-        let Some(command) = args.next() else {
-            return Err(Failure::NoCommand);
-        };
+        let command = args.next().ok_or(Failure::NoCommand)?;
         let invocation = match command.as_str() {
             "help" | "--help" | "-h" => Invocation::Help,
             "--version" => Invocation::Version,
@@ -25,22 +23,19 @@ impl Invocation {
             "show" => parse_show(&mut args)?,
             _ => return Err(Failure::UnknownCommand(command)),
         };
-        match args.next() {
-            Some(word) => Err(Failure::TooManyArguments(word)),
-            None => Ok(invocation),
+        if let Some(word) = args.next() {
+            return Err(Failure::TooManyArguments(word));
         }
+        Ok(invocation)
     }
 }
 
 fn parse_show(args: &mut Args) -> Result<Invocation, Failure> {
-    let Some(path) = args.next() else {
-        return Err(Failure::NoFile);
-    };
-    let Some(word) = args.next() else {
-        return Ok(Invocation::Show(path, None));
-    };
-    match number(word.as_bytes()) {
-        Some(node) => Ok(Invocation::Show(path, Some(node))),
-        None => Err(Failure::NoNumber(word)),
-    }
+    let path = args.next().ok_or(Failure::NoFile)?;
+    let node = args.next().map(parse_node).transpose()?;
+    Ok(Invocation::Show(path, node))
+}
+
+fn parse_node(word: String) -> Result<u64, Failure> {
+    number(word.as_bytes()).ok_or(Failure::NoNumber(word))
 }

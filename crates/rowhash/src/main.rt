@@ -37,10 +37,7 @@ Example:
   printf 'image-file examples/passes.img\\nslot 1 0\\n' | rowhash replay";
 
 fn run(rt: &HostRuntime) -> Result<(), Failure> {
-    let args = match env::args(rt) {
-        Ok(args) => args,
-        Err(error) => return Err(Failure::Arguments(error)),
-    };
+    let args = env::args(rt).map_err(Failure::Arguments)?;
     match Invocation::parse(args)? {
         Invocation::Help => rt.println(HELP)?,
         Invocation::Version => rt.println("rowhash 0.1.0")?,

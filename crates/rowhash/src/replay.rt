@@ -12,22 +12,21 @@ use std::io;
 use std::io::{BufRead, BufReader, Stdin};
 use std::str::from_utf8;
 
-// What lasts from image to image.
-#[derive(Drop)]
-struct Session {
-    rt: HostRuntime,
-    input: BufReader<Stdin>,
+// Where lines are answered, and the image that they ask of.
+#[derive(Clone, Copy)]
+struct Session<'a> {
+    rt: &'a HostRuntime,
+    image: Image<'a>,
 }
 
-// Begins with no bytes, which are no image, so that the empty one stands.
+// Begins with no bytes, which are no image, so that the empty one stands. An image borrows its
+// bytes, so each has a session of its own, until another is accepted.
 pub(crate) fn replay(rt: &HostRuntime) -> io::Result<()> {
-    let mut session = Session {
-        rt: *rt,
-        input: BufReader::new(rt.alloc(), rt.stdin())?,
-    };
+    let mut input = BufReader::new(rt.alloc(), rt.stdin())?;
     let mut bytes = Vec::new(rt.alloc());
+    // a count, since nothing tells how many images are to come
     for _ in 0..u64::MAX {
-        match session.answer_over(bytes.as_slice())? {
+        match Session::new(rt, bytes.as_slice()).answer_lines(&mut input)? {
             Some(next) => bytes = next,
             None => break,
         }
@@ -50,31 +49,26 @@ fn is_passed_over(line: &[u8]) -> bool {
     matches!(line, [b'#', ..]) || line.trim_ascii().is_empty()
 }
 
-impl Session {
-    // An image borrows its bytes, so each has a turn of its own, until another is accepted.
-    fn answer_over(&mut self, bytes: &[u8]) -> io::Result<Option<Vec<u8>>> {
+impl<'a> Session<'a> {
+    fn new(rt: &'a HostRuntime, bytes: &'a [u8]) -> Session<'a> {
         let mut image = Image::empty();
         let _ = image.admit(bytes);
-        self.answer_lines(&image)
+        Session { rt, image }
     }
 
     // Answers lines until one brings another image, whose bytes it gives, or there are no more.
-    fn answer_lines(&mut self, image: &Image) -> io::Result<Option<Vec<u8>>> {
-        let mut line = Vec::new(self.rt.alloc());
-        for _ in 0..u64::MAX {
-            line.clear();
-            if self.input.read_until(b'\n', &mut line)? == 0 {
-                break;
-            }
-            if let Some(bytes) = self.answer_line(image, line.as_slice())? {
-                return Ok(Some(bytes));
+    fn answer_lines(&self, input: &mut BufReader<Stdin>) -> io::Result<Option<Vec<u8>>> {
+        for line in input.split(self.rt.alloc(), b'\n') {
+            let bytes = self.answer_line(line?.as_slice())?;
+            if bytes.is_some() {
+                return Ok(bytes);
             }
         }
         Ok(None)
     }
 
     // Answers a line unless it is passed over, and gives the bytes of an image that it brings.
-    fn answer_line(&self, image: &Image, line: &[u8]) -> io::Result<Option<Vec<u8>>> {
+    fn answer_line(&self, line: &[u8]) -> io::Result<Option<Vec<u8>>> {
         if is_passed_over(line) {
             return Ok(None);
         }
@@ -85,14 +79,16 @@ impl Session {
         match Command::parse(self.rt.alloc(), text)? {
             Some(Command::Image(bytes)) => return self.answer_image(bytes),
             Some(Command::ImageFile(path)) => return self.answer_file(path),
-            Some(Command::Slot(node, row)) => self.rt.println(SlotAnswer(image.slot(node, row)))?,
+            Some(Command::Slot(node, row)) => {
+                self.rt.println(SlotAnswer(self.image.slot(node, row)))?;
+            }
             None => self.rt.println("not understood")?,
         }
         Ok(None)
     }
 
     fn answer_file(&self, path: &str) -> io::Result<Option<Vec<u8>>> {
-        match read_image(&self.rt, path) {
+        match read_image(self.rt, path) {
             Ok(bytes) => self.answer_image(bytes),
             Err(_) => {
                 println!(self.rt; "unreadable {path}")?;

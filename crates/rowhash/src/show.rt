@@ -1,5 +1,5 @@
 // An image described for a person.
-use crate::failure::Failure;
+use crate::failure::{Failure, Refusal};
 use crate::files::read_image;
 use crate::slots::SlotShown;
 use crate::types::TypeName;
@@ -35,89 +35,87 @@ impl fmt::Display for NodeShown<'_, '_> {
         if count > 0 {
             f.write_str("  children")?;
         }
-        for index in 0..count {
-            if let Some(child) = self.image.child(u64::from(node), u64::from(index)) {
-                write!(f, " {child}")?;
-            }
+        let child = |index| self.image.child(u64::from(node), u64::from(index));
+        for number in (0..count).filter_map(child) {
+            write!(f, " {number}")?;
         }
         Ok(())
     }
 }
 
+// An image, and where its lines go.
+#[derive(Drop)]
+struct Listing<'a> {
+    heap: Global,
+    image: Image<'a>,
+    out: BufWriter<Stdout>,
+}
+
 pub(crate) fn show(rt: &HostRuntime, path: &str, node: Option<u64>) -> Result<(), Failure> {
-    let bytes = match read_image(rt, path) {
-        Ok(bytes) => bytes,
-        Err(error) => return Err(Failure::Unreadable(String::from_str(rt.alloc(), path)?, error)),
-    };
+    let heap = rt.alloc();
+    let bytes = read_image(rt, path).try_map_err(|error| Ok(Failure::Unreadable(
+        String::from_str(heap, path)?,
+        error,
+    )))?;
     let mut image = Image::empty();
-    if let Err(fault) = image.admit(bytes.as_slice()) {
-        return Err(Failure::Refused(String::from_str(rt.alloc(), path)?, fault));
-    }
+    image.admit(bytes.as_slice()).try_map_err(|fault| Ok(Failure::Refused(
+        String::from_str(heap, path)?,
+        Refusal(fault),
+    )))?;
     let size = bytes.len();
     let count = image.node_count();
-    let mut out = BufWriter::new(rt.alloc(), rt.stdout())?;
+    let out = BufWriter::new(heap, rt.stdout())?;
+    let mut listing = Listing { heap, image, out };
     match node {
         None => {
-            writeln!(out, "{path}: bytes {size}, nodes {count}")?;
-            show_nodes(rt.alloc(), &mut out, &image)?;
+            writeln!(listing.out, "{path}: bytes {size}, nodes {count}")?;
+            listing.show_nodes()?;
         }
         Some(node) => {
-            let Some(record) = image.node(node) else {
-                return Err(Failure::NoNode(String::from_str(rt.alloc(), path)?, node, count));
-            };
-            writeln!(out, "{path}: bytes {size}, nodes {count}")?;
-            show_rows(&mut out, &image, node, &record)?;
+            let record = image.node(node).try_ok_or_else(|| {
+                Ok(Failure::NoNode(String::from_str(heap, path)?, node, count))
+            })?;
+            writeln!(listing.out, "{path}: bytes {size}, nodes {count}")?;
+            listing.show_rows(node, record.rows)?;
         }
     }
-    out.flush()?;
+    listing.out.flush()?;
     Ok(())
 }
 
-fn show_nodes(heap: Global, out: &mut BufWriter<Stdout>, image: &Image) -> io::Result<()> {
-    for node in 0..image.node_count() {
-        if let Some(record) = image.node(u64::from(node)) {
-            show_node(heap, out, image, node, record)?;
+impl Listing<'_> {
+    fn show_nodes(&mut self) -> io::Result<()> {
+        for node in 0..self.image.node_count() {
+            if let Some(record) = self.image.node(u64::from(node)) {
+                self.show_node(node, record)?;
+            }
         }
+        Ok(())
     }
-    Ok(())
-}
 
-fn show_node(
-    heap: Global,
-    out: &mut BufWriter<Stdout>,
-    image: &Image,
-    node: u32,
-    record: Record,
-) -> io::Result<()> {
-    let Some(data_type) = record.data_type() else {
-        return Ok(());
-    };
-    // as text, so that it can be padded
-    let name = TypeName(data_type).to_string(heap)?;
-    let image = *image;
-    let type_name = name.as_str();
-    let shown = NodeShown {
-        image,
-        node,
-        record,
-        type_name,
-    };
-    writeln!(out, "{shown}")
-}
+    fn show_node(&mut self, node: u32, record: Record) -> io::Result<()> {
+        let Some(data_type) = record.data_type() else {
+            return Ok(());
+        };
+        // as text, so that it can be padded
+        let name = TypeName(data_type).to_string(self.heap)?;
+        let image = self.image;
+        let type_name = name.as_str();
+        let shown = NodeShown {
+            image,
+            node,
+            record,
+            type_name,
+        };
+        writeln!(self.out, "{shown}")
+    }
 
-fn show_rows(
-    out: &mut BufWriter<Stdout>,
-    image: &Image,
-    node: u64,
-    record: &Record,
-) -> io::Result<()> {
-    let Some(data_type) = record.data_type() else {
-        return Ok(());
-    };
-    for row in 0..record.rows {
-        if let Ok(value) = image.slot(node, u64::from(row)) {
-            writeln!(out, "{row:>7}  {}", SlotShown { data_type, value })?;
+    fn show_rows(&mut self, node: u64, rows: u32) -> io::Result<()> {
+        for row in 0..rows {
+            if let Ok(value) = self.image.slot(node, u64::from(row)) {
+                writeln!(self.out, "{row:>7}  {}", SlotShown(value))?;
+            }
         }
+        Ok(())
     }
-    Ok(())
 }

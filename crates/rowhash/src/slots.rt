@@ -1,8 +1,7 @@
 // Slots as lines of text: as replay answers them, and for a person.
 use crate::types::TypeName;
-use image::value::{SlotFault, SlotValue};
+use image::value::{Part, SlotFault, SlotValue};
 use layout::bytes::Width;
-use layout::data_type::DataType;
 use std::fmt;
 use std::str::from_utf8;
 use text::Hex;
@@ -13,27 +12,23 @@ struct Bits(Width, u64);
 
 impl fmt::Display for Bits {
     fn fmt<W: fmt::Write>(&self, f: &mut fmt::Formatter<W>) -> fmt::Result {
-        let bits = self.1;
-        match self.0 {
-            Width::One => write!(f, "{bits:02x}"),
-            Width::Two => write!(f, "{bits:04x}"),
-            Width::Four => write!(f, "{bits:08x}"),
-            Width::Eight => write!(f, "{bits:016x}"),
-        }
+        let Bits(width, bits) = *self;
+        let digits = 2 * width.bytes() as usize;
+        write!(f, "{bits:0digits$x}")
     }
 }
 
-// A part of the image with its place; nothing after the place where there are no bytes.
+// A part of the image by its place and its bytes; nothing after the place where there are no bytes.
 #[derive(Clone, Copy)]
-struct Part<'a>(usize, &'a [u8]);
+struct Placed<'a>(Part<'a>);
 
-impl fmt::Display for Part<'_> {
+impl fmt::Display for Placed<'_> {
     fn fmt<W: fmt::Write>(&self, f: &mut fmt::Formatter<W>) -> fmt::Result {
-        let place = self.0;
-        if self.1.is_empty() {
+        let Part { place, bytes } = self.0;
+        if bytes.is_empty() {
             return write!(f, "{place}");
         }
-        write!(f, "{place} {}", Hex(self.1))
+        write!(f, "{place} {}", Hex(bytes))
     }
 }
 
@@ -53,10 +48,10 @@ impl fmt::Display for SlotAnswer<'_> {
                 width.bytes(),
                 Bits(width, bits)
             ),
-            Ok(SlotValue::Text(place, bytes)) => write!(f, "text {}", Part(place, bytes)),
-            Ok(SlotValue::Binary(place, bytes)) => write!(f, "binary {}", Part(place, bytes)),
-            Ok(SlotValue::View(place, bytes)) => write!(f, "view {}", Part(place, bytes)),
-            Ok(SlotValue::Kind(kind)) => write!(f, "kind {kind}"),
+            Ok(SlotValue::Text(part)) => write!(f, "text {}", Placed(part)),
+            Ok(SlotValue::Binary(part)) => write!(f, "binary {}", Placed(part)),
+            Ok(SlotValue::View(part)) => write!(f, "view {}", Placed(part)),
+            Ok(SlotValue::Kind(data_type)) => write!(f, "kind {}", data_type.kind()),
             Err(fault) => write!(f, "refused {}", fault.number()),
         }
     }
@@ -77,6 +72,7 @@ impl fmt::Display for Quoted<'_> {
     }
 }
 
+// Not the library's escapes: those write controls and quotes in another way.
 fn show_text<W: fmt::Write>(f: &mut fmt::Formatter<W>, text: &str) -> fmt::Result {
     for letter in text.chars() {
         match letter {
@@ -107,38 +103,32 @@ struct Counted(Width, u64);
 
 impl fmt::Display for Counted {
     fn fmt<W: fmt::Write>(&self, f: &mut fmt::Formatter<W>) -> fmt::Result {
-        let value = self.1;
-        if !self.0.negative(value) {
-            return write!(f, "{value}");
+        let Counted(width, value) = *self;
+        // the sign bit of its width goes to the top, and back
+        let unused = 64 - 8 * width.bytes();
+        let signed = (value << unused).cast_signed() >> unused;
+        if signed < 0 {
+            return write!(f, "{value} (signed: {signed})");
         }
-        let past: u64 = match self.0 {
-            Width::One => 0x100,
-            Width::Two => 0x1_0000,
-            Width::Four => 0x1_0000_0000,
-            Width::Eight => 0,
-        };
-        write!(f, "{value} (signed: -{})", past.wrapping_sub(value))
+        write!(f, "{value}")
     }
 }
 
-// A slot for a person, with its column's type.
+// A slot for a person. A text of its own: replay's words are fixed by what it answers, a person's are not.
 #[derive(Clone, Copy)]
-pub struct SlotShown<'a> {
-    pub data_type: DataType,
-    pub value: SlotValue<'a>,
-}
+pub struct SlotShown<'a>(pub SlotValue<'a>);
 
 impl fmt::Display for SlotShown<'_> {
     fn fmt<W: fmt::Write>(&self, f: &mut fmt::Formatter<W>) -> fmt::Result {
-        match self.value {
+        match self.0 {
             SlotValue::Null => f.write_str("null"),
             SlotValue::Boolean(value) => write!(f, "boolean {value}"),
             SlotValue::Number(width, value) => write!(f, "number {}", Counted(width, value)),
             SlotValue::Float(width, bits) => write!(f, "float 0x{}", Bits(width, bits)),
-            SlotValue::Text(place, bytes) => write!(f, "text {place} {}", Quoted(bytes)),
-            SlotValue::Binary(place, bytes) => write!(f, "binary {}", Part(place, bytes)),
-            SlotValue::View(place, bytes) => write!(f, "view {place} {}", Quoted(bytes)),
-            SlotValue::Kind(_) => write!(f, "{}", TypeName(self.data_type)),
+            SlotValue::Text(part) => write!(f, "text {} {}", part.place, Quoted(part.bytes)),
+            SlotValue::Binary(part) => write!(f, "binary {}", Placed(part)),
+            SlotValue::View(part) => write!(f, "view {} {}", part.place, Quoted(part.bytes)),
+            SlotValue::Kind(data_type) => write!(f, "{}", TypeName(data_type)),
         }
     }
 }

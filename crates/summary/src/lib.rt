@@ -7,6 +7,7 @@ ghost use Rattle.layout.specs.Records.{nodes, record_at};
 ghost use Rattle.summary.specs.Nulls.{count_below, is_null, nulls_of};
 
 use image::place::Image;
+use layout::column::Column;
 use layout::record::Record;
 
 // Whether a row is marked null: of an admitted image its bit is read without a test.
@@ -15,10 +16,14 @@ fn is_null(image: &Image<'_>, node: u64, r: &Record, row: u32) -> bool
     requires row { row < r.now.rows }
     ensures { result ≡ is_null image.now.bytes.now r.now row }
 {
-    match r.data_type() {
-        Some(t) => t.reads_nulls() && r.is_marked(image.bytes(), row),
-        None => false,
-    }
+    let Some(t) = r.data_type() else {
+        return false;
+    };
+    let column = Column {
+        bytes: image.bytes(),
+        record: *r,
+    };
+    column.is_null(t, row)
 }
 
 // How many rows of a node are marked null, or none where there is no such node.
@@ -26,6 +31,7 @@ pub fn null_count(image: &Image<'_>, node: u64) -> Option<u32>
     ensures { result ≡ nulls_of image.now.bytes.now node }
 {
     let r = image.node(node)?;
+    // no `filter` and `count`: their clauses on a range go by places, which leaves the sum unproved
     let mut count = 0;
     for row in 0..r.rows {
         if is_null(image, node, &r, row) {

@@ -1,42 +1,66 @@
--- The steps of the loops that read digits.
-use Rattle.std.proofs.Common.{◌≡◌, ℕ, ◌+◌, ◌-◌, ◌<◌, ◌≤◌, List, [], ◌∷◌, ◌++◌, length, get_or, take, drop, Some, None, Option, sym, refl, ap, ◌∙◌, append_assoc, arith, take_all}
-use Rattle.std.proofs.lemmas.List.{at_drop_all, at_drop_more}
+-- The steps of the loop that reads pairs of digits.
+use Rattle.std.proofs.Common.{◌≡◌, ℕ, zero, suc, ◌+◌, ◌-◌, ◌*◌, ◌<◌, ◌≤◌, ◌/◌, ◌%◌, ◌==◌, Bool, true, false, List, [], ◌∷◌, ◌++◌, length, get_or, take, drop, Some, None, Option, sym, refl, ap, ◌∙◌, append_assoc, append-nil, arith, take_all}
+use Rattle.std.specs.Bool.{then_some}
 use Rattle.std.specs.Option.{option_map}
-use Rattle.text.specs.Text.{and_then, both, byte_value, bytes_value, number_value, numeral_value, with_digit, with_digits}
+use Rattle.std.specs.Simd.{first_chunks}
+use Rattle.text.specs.Text.{both, byte_value, bytes_value, number_value, numeral_value}
 
--- a digit is read
-pub digits_step : (base value : ℕ) (ds : List ℕ) (i : ℕ) (o : Option ℕ) → i < length ds → o ≡ with_digit base value (get_or ds i 0) → with_digits base value (drop i ds) ≡ and_then o (λ next. with_digits base next (drop (i + 1) ds))
-digits_step base value ds i o h e =
-    at_drop_more (with_digits base value) ds i 0 h
-    ∙ ap (λ (p : Option ℕ). and_then p (λ next. with_digits base next (drop (i + 1) ds))) (sym e)
-
--- all digits are read
-pub digits_end : (base value : ℕ) (ds : List ℕ) (i : ℕ) → length ds ≤ i → with_digits base value (drop i ds) ≡ Some value
-digits_end base value ds i h = at_drop_all (with_digits base value) ds i h
-
--- there is a digit
-pub digits_some : (base : ℕ) (ds : List ℕ) → 0 < length ds → numeral_value base ds ≡ with_digits base 0 ds
-digits_some base [] h = absurd (omega arith)
-digits_some base (d ∷ more) h = refl
+-- pair i of a text, and what follows it
+pair_at : (n i : ℕ) (ds : List ℕ) → i < n → 2 * n ≤ length ds → drop (2 * i) ds ≡ get_or (get_or (first_chunks 2 n ds) i []) 0 0 ∷ get_or (get_or (first_chunks 2 n ds) i []) 1 0 ∷ drop (2 * (i + 1)) ds
+pair_at zero i ds h l = absurd (omega arith)
+pair_at (suc n) i [] h l = absurd (omega arith)
+pair_at (suc n) i (x ∷ []) h l = absurd (omega arith)
+pair_at (suc n) zero (x ∷ y ∷ more) h l = refl
+pair_at (suc n) (suc i) (x ∷ y ∷ more) h l =
+    let here : 2 * suc i ≡ suc (suc (2 * i)) = omega arith in
+    let next : 2 * (suc i + 1) ≡ suc (suc (2 * (i + 1))) = omega arith in
+    ap (λ (k : ℕ). drop k (x ∷ y ∷ more)) here
+    ∙ pair_at n i more (omega arith) (omega arith)
+    ∙ ap (λ (k : ℕ). get_or (get_or (first_chunks 2 n more) i []) 0 0 ∷ get_or (get_or (first_chunks 2 n more) i []) 1 0 ∷ drop k (x ∷ y ∷ more)) (sym next)
 
 append_byte : (acc : List ℕ) (b : ℕ) (o : Option (List ℕ)) → option_map (λ bs. acc ++ bs) (both (λ x xs. x ∷ xs) (Some b) o) ≡ option_map (λ bs. (acc ++ b ∷ []) ++ bs) o
 append_byte acc b None = refl
 append_byte acc b (Some bs) = ap (λ (l : List ℕ). Some l) (sym (append_assoc acc (b ∷ []) bs))
 
+-- what follows pair i, after its byte
+abbrev pub after_pair : (acc : List ℕ) → Option ℕ → Option (List ℕ) → Option (List ℕ)
+after_pair acc None rest = None
+after_pair acc (Some b) rest = option_map (λ bs. (acc ++ b ∷ []) ++ bs) rest
+
+append_pair : (acc : List ℕ) (o : Option ℕ) (rest : Option (List ℕ)) → option_map (λ bs. acc ++ bs) (both (λ b bs. b ∷ bs) o rest) ≡ after_pair acc o rest
+append_pair acc None rest = refl
+append_pair acc (Some b) rest = append_byte acc b rest
+
 -- a pair of digits is read
-pub pairs_step : (xs acc : List ℕ) (b : ℕ) → 2 ≤ length xs → Some b ≡ byte_value (get_or xs 0 0) (get_or xs 1 0) → option_map (λ bs. acc ++ bs) (bytes_value xs) ≡ option_map (λ bs. (acc ++ b ∷ []) ++ bs) (bytes_value (take (length xs - 2) (drop 2 xs)))
-pairs_step [] acc b h e = absurd (omega arith)
-pairs_step (x ∷ []) acc b h e = absurd (omega arith)
-pairs_step (x ∷ y ∷ more) acc b h e =
-    ap (λ (o : Option ℕ). option_map (λ bs. acc ++ bs) (both (λ z zs. z ∷ zs) o (bytes_value more))) (sym e)
-    ∙ append_byte acc b (bytes_value more)
-    ∙ ap (λ (l : List ℕ). option_map (λ bs. (acc ++ b ∷ []) ++ bs) (bytes_value l)) (sym (take_all (length (x ∷ y ∷ more) - 2) more (omega arith)))
+pub pairs_step : (ds : List ℕ) (pairs : List (List ℕ)) (i : ℕ) (acc : List ℕ) (o : Option ℕ) → pairs ≡ first_chunks 2 (length ds / 2) ds → i < length ds / 2 → o ≡ byte_value (get_or (get_or pairs i []) 0 0) (get_or (get_or pairs i []) 1 0) → option_map (λ bs. acc ++ bs) (bytes_value (drop (2 * i) ds)) ≡ after_pair acc o (bytes_value (drop (2 * (i + 1)) ds))
+pairs_step ds pairs i acc o p h e =
+    let byte : List (List ℕ) → Option ℕ = λ xs. byte_value (get_or (get_or xs i []) 0 0) (get_or (get_or xs i []) 1 0) in
+    let after : Option (List ℕ) = bytes_value (drop (2 * (i + 1)) ds) in
+    ap (λ (xs : List ℕ). option_map (λ bs. acc ++ bs) (bytes_value xs)) (pair_at (length ds / 2) i ds h (omega arith))
+    ∙ append_pair acc (byte (first_chunks 2 (length ds / 2) ds)) after
+    ∙ ap (λ (q : Option ℕ). after_pair acc q after) (sym (e ∙ ap byte p))
+
+last_pair : (acc rest : List ℕ) → length rest < 2 → option_map (λ bs. acc ++ bs) (bytes_value rest) ≡ then_some (length rest == 0) acc
+last_pair acc [] h = ap (λ (l : List ℕ). Some l) (append-nil acc)
+last_pair acc (x ∷ []) h = refl
+last_pair acc (x ∷ y ∷ more) h = absurd (omega arith)
+
+-- all pairs are read
+pub pairs_end : (ds : List ℕ) (i : ℕ) (rest acc : List ℕ) → i ≡ length ds / 2 → rest ≡ drop (length ds / 2 * 2) ds → length rest ≡ length ds % 2 → option_map (λ bs. acc ++ bs) (bytes_value (drop (2 * i) ds)) ≡ then_some (length rest == 0) acc
+pairs_end ds i rest acc all r n =
+    let place : 2 * i ≡ length ds / 2 * 2 = omega arith in
+    ap (λ (xs : List ℕ). option_map (λ bs. acc ++ bs) (bytes_value xs)) (ap (λ (k : ℕ). drop k ds) place ∙ sym r)
+    ∙ last_pair acc rest (omega arith)
+
+pub option_map-then_some : {A B : Type 0} (f : A → B) (b : Bool) (x : A) → option_map f (then_some b x) ≡ then_some b (f x)
+option_map-then_some f true x = refl
+option_map-then_some f false x = refl
 
 -- a word of hexadecimal digits
 pub word_hex : (w : List ℕ) → 2 ≤ length w → get_or w 0 0 ≡ 48 → get_or w 1 0 ≡ 120 → number_value w ≡ numeral_value 16 (take (length w - 2) (drop 2 w))
-word_hex [] h zero x = absurd (omega arith)
-word_hex (a ∷ []) h zero x = absurd (omega arith)
-word_hex (a ∷ b ∷ more) h zero x =
-    ap (λ (n : ℕ). number_value (n ∷ b ∷ more)) zero
-    ∙ ap (λ (n : ℕ). number_value (48 ∷ n ∷ more)) x
+word_hex [] h first second = absurd (omega arith)
+word_hex (a ∷ []) h first second = absurd (omega arith)
+word_hex (a ∷ b ∷ more) h first second =
+    ap (λ (n : ℕ). number_value (n ∷ b ∷ more)) first
+    ∙ ap (λ (n : ℕ). number_value (48 ∷ n ∷ more)) second
     ∙ ap (λ (l : List ℕ). numeral_value 16 l) (sym (take_all (length (a ∷ b ∷ more) - 2) more (omega arith)))

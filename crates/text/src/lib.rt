@@ -2,7 +2,7 @@
 #![tactic(auto)]
 
 ghost use Rattle.text.specs.Text.{byte_value, bytes_value, digit_value, number_value, numeral_value, with_digit};
-ghost use Rattle.std.specs.Prelude.{◌≡◌, IfOk, vec_items};
+ghost use Rattle.std.specs.Prelude.{◌≡◌, ◌≤◌, IfOk, vec_items};
 ghost use Rattle.std.specs.Option.{option_map};
 
 use std::alloc::{AllocError, Global};
@@ -12,12 +12,7 @@ use std::fmt;
 fn hex_digit(digit: u8) -> Option<u8>
     ensures { result ≡ digit_value digit }
 {
-    match digit {
-        b'0'..=b'9' => Some(digit - b'0'),
-        b'a'..=b'f' => Some(digit - b'a' + 10),
-        b'A'..=b'F' => Some(digit - b'A' + 10),
-        _ => None,
-    }
+    char::from(digit).to_digit(16).map(|value| value as u8)
 }
 
 // The byte of two digits.
@@ -31,29 +26,24 @@ fn hex_byte(high: u8, low: u8) -> Option<u8>
 pub fn hex_bytes(heap: Global, digits: &[u8]) -> Result<Option<Vec<u8>>, AllocError>
     ensures { IfOk result (λ o. option_map vec_items o ≡ bytes_value digits.now) }
 {
-    let mut bytes = Vec::with_capacity(heap, digits.len() / 2)?;
-    let mut rest = digits;
-    while let [high, low, more @ ..] = rest {
+    let (pairs, rest) = digits.as_chunks::<2>();
+    let mut bytes = Vec::with_capacity(heap, pairs.len())?;
+    for [high, low] in pairs {
         let Some(byte) = hex_byte(*high, *low) else {
             return Ok(None);
         };
         bytes.push(byte)?;
-        rest = more;
     }
-    if rest.len() == 1 {
-        return Ok(None);
-    }
-    Ok(Some(bytes))
+    Ok(rest.is_empty().then_some(bytes))
 }
 
 // A value with one more digit, or none where it is no digit of the base or the value does not fit.
-fn with_digit(base: u8, value: u64, digit: u8) -> Option<u64>
+fn with_digit(base: u32, value: u64, digit: u8) -> Option<u64>
+    requires at_least { 2 ≤ base }
+    requires at_most { base ≤ 16 }
     ensures { result ≡ with_digit base value digit }
 {
-    let next = hex_digit(digit)?;
-    if next >= base {
-        return None;
-    }
+    let next = char::from(digit).to_digit(base)?;
     value
         .checked_mul(u64::from(base))?
         .checked_add(u64::from(next))
@@ -61,7 +51,9 @@ fn with_digit(base: u8, value: u64, digit: u8) -> Option<u64>
 
 // The number that digits write, or none where there is no digit, something else, or a number that
 // does not fit.
-fn numeral(base: u8, digits: &[u8]) -> Option<u64>
+fn numeral(base: u32, digits: &[u8]) -> Option<u64>
+    requires at_least { 2 ≤ base }
+    requires at_most { base ≤ 16 }
     ensures { result ≡ numeral_value base digits.now }
 {
     if digits.is_empty() {

@@ -1,194 +1,120 @@
 // Runs the published vectors of FNV-1a and SipHash-2-4, each written to a hasher in several ways.
 #![tactic(auto)]
 
-ghost use Rattle.std.specs.Prelude.{◌+◌, ◌<◌, ◌≤◌, length};
+ghost use Rattle.std.specs.Prelude.{◌<◌, length};
 
 use anyhow::anyhow;
 use hash_state::{BuildHasher, Fnv1aState, Hasher, SipHashState};
 
 mod tables;
 
-// How a message is written: cut into words of at most so many bytes (16: pairs), the first of them after some single
-// bytes, or as one byte string after them.
-#[derive(Clone, Copy)]
-struct Way {
-    single: usize,
-    widest: usize,
+// The words that a message is cut into, the narrowest first.
+#[derive(Clone, Copy, PartialEq, Eq, PartialOrd, Ord)]
+enum Word {
+    U8,
+    U16,
+    U32,
+    U64,
+    Pair,
 }
+
+// How a message is written: so many single bytes, and the rest in words of at most a width, or as one byte string.
+#[derive(Clone, Copy)]
+struct Way(usize, Option<Word>);
 
 const WAYS: [Way; 12] = [
-    Way {
-        single: 0,
-        widest: 0,
-    },
-    Way {
-        single: 1,
-        widest: 0,
-    },
-    Way {
-        single: 5,
-        widest: 0,
-    },
-    Way {
-        single: 8,
-        widest: 0,
-    },
-    Way {
-        single: 0,
-        widest: 1,
-    },
-    Way {
-        single: 0,
-        widest: 2,
-    },
-    Way {
-        single: 3,
-        widest: 2,
-    },
-    Way {
-        single: 0,
-        widest: 4,
-    },
-    Way {
-        single: 7,
-        widest: 4,
-    },
-    Way {
-        single: 0,
-        widest: 8,
-    },
-    Way {
-        single: 2,
-        widest: 8,
-    },
-    Way {
-        single: 6,
-        widest: 16,
-    },
+    Way(0, None),
+    Way(1, None),
+    Way(5, None),
+    Way(8, None),
+    Way(0, Some(Word::U8)),
+    Way(0, Some(Word::U16)),
+    Way(3, Some(Word::U16)),
+    Way(0, Some(Word::U32)),
+    Way(7, Some(Word::U32)),
+    Way(0, Some(Word::U64)),
+    Way(2, Some(Word::U64)),
+    Way(6, Some(Word::Pair)),
 ];
 
-// How many hashes were checked, and how many agreed.
-#[derive(Clone, Copy)]
-struct Tally {
-    checked: u64,
-    agreed: u64,
-}
-
-impl Tally {
-    fn count(&mut self, agrees: bool) {
-        self.checked = self.checked.wrapping_add(1);
-        if agrees {
-            self.agreed = self.agreed.wrapping_add(1);
-        }
-    }
-}
-
-fn half_at(bytes: &[u8], at: usize) -> u32
-    requires { at + 4 ≤ length bytes.now }
+// Writes the widest word that is allowed and there, and answers the bytes after it. The widths are written out, since
+// the borrow checker covers no closure over arrays whose length is a parameter.
+fn write_word<'a, H: Hasher>(hasher: &mut H, bytes: &'a [u8], widest: Word) -> &'a [u8]
+    requires { 0 < length bytes.now }
+    ensures { length result.now < length bytes.now }
 {
-    u32::from_le_bytes([bytes[at], bytes[at + 1], bytes[at + 2], bytes[at + 3]])
+    if widest >= Word::Pair
+        && let Some((pair, rest)) = bytes.split_first_chunk::<16>()
+    {
+        let pair = u128::from_le_bytes(*pair);
+        hasher.write_pair((pair % (1 << 64)) as u64, (pair >> 64) as u64);
+        return rest;
+    }
+    if widest >= Word::U64
+        && let Some((word, rest)) = bytes.split_first_chunk::<8>()
+    {
+        hasher.write_u64(u64::from_le_bytes(*word));
+        return rest;
+    }
+    if widest >= Word::U32
+        && let Some((word, rest)) = bytes.split_first_chunk::<4>()
+    {
+        hasher.write_u32(u32::from_le_bytes(*word));
+        return rest;
+    }
+    if widest >= Word::U16
+        && let Some((word, rest)) = bytes.split_first_chunk::<2>()
+    {
+        hasher.write_u16(u16::from_le_bytes(*word));
+        return rest;
+    }
+    hasher.write_u8(bytes[0]);
+    &bytes[1..]
 }
 
-fn word_at(bytes: &[u8], at: usize) -> u64
-    requires { at + 8 ≤ length bytes.now }
-{
-    u64::from(half_at(bytes, at)) | (u64::from(half_at(bytes, at + 4)) << 32)
-}
-
-// Writes the widest word that is allowed and there, and answers its width.
-fn write_word<H: Hasher>(hasher: &mut H, bytes: &[u8], at: usize, widest: usize) -> usize
-    requires { at < length bytes.now }
-    ensures some { 0 < result }
-    ensures there { at + result ≤ length bytes.now }
-{
-    let left = bytes.len() - at;
-    if widest >= 16 && left >= 16 {
-        hasher.write_pair(word_at(bytes, at), word_at(bytes, at + 8));
-        return 16;
-    }
-    if widest >= 8 && left >= 8 {
-        hasher.write_u64(word_at(bytes, at));
-        return 8;
-    }
-    if widest >= 4 && left >= 4 {
-        hasher.write_u32(half_at(bytes, at));
-        return 4;
-    }
-    if widest >= 2 && left >= 2 {
-        hasher.write_u16(u16::from_le_bytes([bytes[at], bytes[at + 1]]));
-        return 2;
-    }
-    hasher.write_u8(bytes[at]);
-    1
-}
-
-fn write_words<H: Hasher>(hasher: &mut H, bytes: &[u8], start: usize, widest: usize) {
-    let mut at = start;
-    while at < bytes.len() {
-        at += write_word(hasher, bytes, at, widest);
+fn write_words<H: Hasher>(hasher: &mut H, bytes: &[u8], widest: Word) {
+    let mut rest = bytes;
+    while !rest.is_empty() {
+        rest = write_word(hasher, rest, widest);
     }
 }
 
 // The hash of a message that is written in one of the ways.
 fn hash_by<S: BuildHasher>(state: &S, message: &[u8], way: Way) -> u64 {
+    let Way(single, widest) = way;
     let mut hasher = state.build_hasher();
-    let single = way.single.min(message.len());
-    write_words(&mut hasher, &message[0..single], 0, 1);
-    if way.widest == 0 {
-        hasher.write(&message[single..]);
-    } else {
-        write_words(&mut hasher, message, single, way.widest);
+    let (first, rest) = message.split_at(single.min(message.len()));
+    write_words(&mut hasher, first, Word::U8);
+    match widest {
+        Some(widest) => write_words(&mut hasher, rest, widest),
+        None => hasher.write(rest),
     }
     hasher.finish()
 }
 
-// Checks one vector, written in all ways.
-fn check<S: BuildHasher>(state: &S, message: &[u8], hash: u64, tally: &mut Tally) {
-    for way in WAYS {
-        tally.count(hash_by(state, message, way) == hash);
-    }
+// In which of the ways a message has the hash.
+fn agreeing<S: BuildHasher>(state: &S, message: &[u8], hash: u64) -> [bool; 12] {
+    WAYS.map(|way| hash_by(state, message, way) == hash)
 }
 
-fn check_fnv1a() -> Tally {
+fn check_fnv1a() -> [[bool; 12]; 16] {
     let state = Fnv1aState::new();
-    let mut tally = Tally {
-        checked: 0,
-        agreed: 0,
-    };
-    for i in 0..tables::FNV1A.len() {
-        let (message, hash) = tables::FNV1A[i];
-        check(&state, message, hash, &mut tally);
-    }
-    tally
+    tables::FNV1A.map(|(message, hash)| agreeing(&state, message, hash))
 }
 
-// The bytes 0, 1, .. 63.
-fn counting() -> [u8; 64] {
-    let mut bytes = [0u8; 64];
-    for n in 0..64u8 {
-        bytes[n as usize] = n;
-    }
-    bytes
-}
-
-fn check_siphash() -> Tally {
+fn check_siphash() -> [[bool; 12]; 64] {
     let state = SipHashState::new(0x0706050403020100, 0x0f0e0d0c0b0a0908);
-    let message = counting();
-    let mut tally = Tally {
-        checked: 0,
-        agreed: 0,
-    };
-    for n in 0..64usize {
-        check(&state, &message[0..n], tables::SIPHASH[n], &mut tally);
-    }
-    tally
+    let message: [u8; 64] = std::array::from_fn(|n| n as u8);
+    std::array::from_fn(|n| agreeing(&state, &message[..n], tables::SIPHASH[n]))
 }
 
 // Says how many agreed; it is an error if any did not.
-fn report(rt: &impl Print, algorithm: &str, vectors: usize, tally: Tally) -> anyhow::Result<()> {
+fn report(rt: &impl Print, algorithm: &str, agreements: &[[bool; 12]]) -> anyhow::Result<()> {
+    let vectors = agreements.len();
     let ways = WAYS.len();
-    let checked = tally.checked;
-    let agreed = tally.agreed;
+    let hashes = agreements.as_flattened();
+    let checked = hashes.len();
+    let agreed = hashes.iter().filter(|agrees| **agrees).count();
     println!(rt;
         "{algorithm}: {vectors} vectors, each in {ways} ways: {agreed} of {checked} hashes agree"
     )?;
@@ -199,8 +125,8 @@ fn report(rt: &impl Print, algorithm: &str, vectors: usize, tally: Tally) -> any
 }
 
 fn run(rt: &impl Print) -> anyhow::Result<()> {
-    report(rt, "FNV-1a", tables::FNV1A.len(), check_fnv1a())?;
-    report(rt, "SipHash-2-4", tables::SIPHASH.len(), check_siphash())
+    report(rt, "FNV-1a", &check_fnv1a())?;
+    report(rt, "SipHash-2-4", &check_siphash())
 }
 
 fn main(rt: HostRuntime) -> anyhow::Result<()> {

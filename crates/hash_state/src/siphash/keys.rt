@@ -31,6 +31,7 @@ impl BuildHasher for SipHashState {
 
     ghost one_below = { unfold siphash in λ state ws. finalize_below _ };
 
+    #[tactic(auto, using(crate::proofs::Streams::begun))]
     fn build_hasher(&self) -> SipHasher {
         SipHasher {
             state: State::keyed(self.k0, self.k1),

@@ -1,7 +1,10 @@
 // The four words of SipHash's internal state, and its rounds.
-ghost use Rattle.std.specs.Prelude.{◌≡◌};
+ghost use Rattle.std.specs.Prelude.{◌≡◌, ℕ, List, ◌++◌};
+ghost use Rattle.std.specs.List.{flat_map};
 ghost use Rattle.hash_state.specs.Sip.{compress, finalize, initial, sip_round};
-ghost use Rattle.hash_state.specs.Stream.{seen};
+ghost use Rattle.hash_state.specs.Stream.{finished, seen};
+
+use super::read::word;
 
 #[derive(Clone, Copy)]
 pub struct State {
@@ -12,6 +15,7 @@ pub struct State {
 }
 
 impl State {
+    #[tactic(auto, unfolding(crate::specs::Sip::initial))]
     pub fn keyed(k0: u64, k1: u64) -> State
         ensures { seen result ≡ initial k0 k1 }
     {
@@ -41,34 +45,39 @@ impl State {
         }
     }
 
+    #[tactic(auto, unfolding(crate::specs::Sip::compress))]
     pub fn compressed(self, m: u64) -> State
         ensures { seen result ≡ compress (seen self) m }
     {
         let told = State {
-            v0: self.v0,
-            v1: self.v1,
-            v2: self.v2,
             v3: self.v3 ^ m,
+            ..self
         };
         let t = told.turned().turned();
-        State {
-            v0: t.v0 ^ m,
-            v1: t.v1,
-            v2: t.v2,
-            v3: t.v3,
-        }
+        State { v0: t.v0 ^ m, ..t }
     }
 
+    #[tactic(auto, unfolding(crate::specs::Sip::finalize))]
     pub fn finalized(self) -> u64
         ensures { result ≡ finalize (seen self) }
     {
         let closing = State {
-            v0: self.v0,
-            v1: self.v1,
             v2: self.v2 ^ 255,
-            v3: self.v3,
+            ..self
         };
         let t = closing.turned().turned().turned().turned();
         t.v0 ^ t.v1 ^ t.v2 ^ t.v3
+    }
+
+    // The state after whole words.
+    #[tactic(auto, using(crate::proofs::Streams::stepped))]
+    pub fn through(self, words: &[[u8; 8]]) -> State
+        ensures { (z : ℕ) (bs : List ℕ) → finished (seen result) z bs ≡ finished (seen self) z (flat_map (λ word. word) words.now ++ bs) }
+    {
+        let mut state = self;
+        for bytes in words {
+            state = state.compressed(word(bytes));
+        }
+        state
     }
 }

@@ -1,4 +1,4 @@
-use Rattle.std.proofs.Common.{◌≡◌, ℕ, suc, ◌-◌, ◌<◌, length, sym, ◌∙◌, arith, length-set}
+use Rattle.std.proofs.Common.{◌≡◌, ℕ, suc, ◌-◌, ◌<◌, length, sym, ◌∙◌, arith, rules}
 use Rattle.std.proofs.lemmas.Result.{err_from_is_err_and}
 use Rattle.admission.specs.FirstFault.{numbered}
 use Rattle.admission.proofs.Scan.{passes, stops, heights_more}
@@ -19,5 +19,5 @@ loop-node-preserved c =
     let within : node < length c.loop-node.heights = omega (arith, c.loop-node.invariant.2) in (
       c.loop-node.invariant.0 ∙ passes c.args.bytes.now c.loop-node.node node next c.in_ok-height.ensures.fault,
       heights_more c.args.bytes.now c.loop-node.node node next c.loop-node.heights c.in_ok-height.height within c.loop-node.invariant.1 c.in_ok-height.ensures.height,
-      length-set c.loop-node.heights node c.in_ok-height.height ∙ c.loop-node.invariant.2,
+      search rules,
     )

@@ -8,6 +8,6 @@ use Rattle.columns.proofs.column.hash_children.Given as goal
 
 abbrev pub invariant-loop-stage : goal.invariant-loop-stage
 invariant-loop-stage g l =
-    Did l.at l.size
-    (λ i x. through (λ s y. number_of (g.S.BuildHasher.one l.state) (g.S.HashState.seeded l.state) (is_first s) (entry s y) (slot_at l.node.bytes.now (child l.node.bytes.now l.node.r s) (l.from + i))) l.stage 0 x)
+    Did l.at l.rows.size
+    (λ i x. through (λ s y. number_of (g.S.BuildHasher.one l.state) (g.S.HashState.seeded l.state) (is_first s) (entry s y) (slot_at l.node.column.bytes.now (child l.node.column.bytes.now l.node.column.record s) (l.rows.from + i))) l.stage 0 x)
     l.initial.work l.work

@@ -5,10 +5,10 @@ use Rattle.std.proofs.lemmas.Bool.{cases_lt}
 use Rattle.layout.specs.Records.{record_at}
 use Rattle.image.specs.Read.{slot_at}
 use Rattle.row_rule.specs.Number.{number_of}
-use Rattle.leaves.specs.Rows.{by_place}
-use Rattle.columns.specs.Column.{RowsThere, met_row, met_rows}
+use Rattle.leaves.specs.Rows.{by_place, row_of}
+use Rattle.columns.specs.Column.{met_rows}
 use Rattle.columns.specs.Jobs.{need as need_of}
-use Rattle.columns.proofs.AtNode.{at_node}
+use Rattle.columns.proofs.Nodes.{at_node}
 use Rattle.columns.proofs.column.hash_column.Goals as goal
 
 -- words below a place stayed, where all there are below it did
@@ -25,14 +25,11 @@ pub hash_rows-requires : goal.hash_rows-requires
 hash_rows-requires g c =
     let image = c.args.image.now in
     let n = c.of-node.result in
-    let bytes = c.of-node.ensures.bytes in
-    let rows : n.r.rows ≡ (record_at image.bytes.now c.args.number).rows = at_node (λ b k r. r.rows) n.bytes.now image.bytes.now n.number c.args.number n.r n.read bytes c.of-node.ensures.number in
+    let rows : n.column.record.rows ≡ (record_at image.bytes.now c.args.number).rows = at_node (λ b t r. r.rows) n image.bytes.now c.args.number c.of-node.ensures.bytes c.of-node.ensures.number in
     let met : c.rows_met-rows.result ≡ met_rows (record_at image.bytes.now c.args.number).rows c.args.list = c.rows_met-rows.ensures ∙ ap (λ (m : ℕ). met_rows m c.args.list) rows in
-    let long : length (take (c.rows_met-rows.result - 0) c.args.entries.now) ≡ c.rows_met-rows.result = simp length-take (omega (arith, met, c.requires.entries)) in
     record {
-      image = bytes;
-      rows = (long ∙ c.rows_met-rows.ensures, subst (λ (m : ℕ). RowsThere m c.args.list) (sym rows) c.requires.rows, omega (arith, long, met, c.requires.few));
-      room = omega (arith, ap₂ need_of bytes c.of-node.ensures.number, c.min-at.ensures, c.requires.room);
+      words = simp length-take (omega (arith, met, c.requires.entries));
+      room = omega (arith, ap₂ need_of c.of-node.ensures.bytes c.of-node.ensures.number, c.min-at.ensures, c.requires.room);
     }
 
 pub returns : goal.returns
@@ -41,11 +38,11 @@ returns g c =
     let n = c.of-node.result in
     let bytes = c.of-node.ensures.bytes in
     let es : List ℕ = c.args.entries.now in
-    let rows : n.r.rows ≡ (record_at image.bytes.now c.args.number).rows = at_node (λ b k r. r.rows) n.bytes.now image.bytes.now n.number c.args.number n.r n.read bytes c.of-node.ensures.number in
+    let rows : n.column.record.rows ≡ (record_at image.bytes.now c.args.number).rows = at_node (λ b t r. r.rows) n image.bytes.now c.args.number bytes c.of-node.ensures.number in
     let R : ℕ = c.rows_met-rows.result in
     let met : R ≡ met_rows (record_at image.bytes.now c.args.number).rows c.args.list = c.rows_met-rows.ensures ∙ ap (λ (m : ℕ). met_rows m c.args.list) rows in
     let whole : R - 0 ≡ R = omega arith in
-    let F : List ℕ → ℕ → ℕ → ℕ → ℕ = λ b k j e. number_of (g.S.BuildHasher.one c.args.state.now) (g.S.HashState.seeded c.args.state.now) c.args.first e (slot_at b k (met_row c.args.list j)) in
+    let F : List ℕ → ℕ → ℕ → ℕ → ℕ = λ b k j e. number_of (g.S.BuildHasher.one c.args.state.now) (g.S.HashState.seeded c.args.state.now) c.args.first e (slot_at b k (row_of 0 c.args.list j)) in
     record {
       entries =
           ap (λ (xs : List ℕ). xs ++ post_of 0 (R - 0) es) c.hash_rows.ensures.words

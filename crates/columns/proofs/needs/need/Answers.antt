@@ -5,7 +5,7 @@ use Rattle.layout.specs.Records.{nodes, record_at}
 use Rattle.admission.proofs.Links.{child_behind}
 use Rattle.admission.proofs.Sound.{sound_few}
 use Rattle.columns.specs.Jobs.{kids, most, need as need_of_node, needs_of, type_of}
-use Rattle.columns.proofs.AtNode.{at_node, of_node}
+use Rattle.columns.proofs.Nodes.{at_node, of_node}
 use Rattle.columns.proofs.Needed.{need_by, need_small}
 use Rattle.columns.proofs.Typed.{passed}
 use Rattle.columns.proofs.needs.need.Goals as goal
@@ -18,8 +18,8 @@ need_of-requires c =
     let at : ℕ = c.loop-at.at - 1 in
     let there : at < nodes B = omega (arith, c.node_count-at.ensures, c.loop-at.auto.at) in
     let p = passed B sound at there in
-    of_node (λ b k r. (i : ℕ) → i < kids (type_of b k) r → (child b r i < 256) × (get_or c.loop-at.needs (child b r i) 0 ≤ 16777216))
-    n.bytes.now B n.number at n.r n.read c.of-node.ensures.bytes c.of-node.ensures.number
+    of_node (λ b t r. (i : ℕ) → i < kids t r → (child b r i < 256) × (get_or c.loop-at.needs (child b r i) 0 ≤ 16777216))
+    n B at c.of-node.ensures.bytes c.of-node.ensures.number
     (λ i l.
     let behind = child_behind B at (record_at B at) (table (type_of B at)) p.tabled p.lined i l in (
       omega (arith, behind.2, sound_few B sound (omega arith)),
@@ -37,7 +37,7 @@ loop-at-preserved c =
     let p = passed B sound at there in
     let made : c.need_of.result ≡ need_of_node B at =
     c.need_of.ensures
-    ∙ at_node (λ b k r. most (needs_of b r needs) (kids (type_of b k) r)) n.bytes.now B n.number at n.r n.read c.of-node.ensures.bytes c.of-node.ensures.number
+    ∙ at_node (λ b t r. most (needs_of b r needs) (kids t r)) n B at c.of-node.ensures.bytes c.of-node.ensures.number
     ∙ need_by B sound at needs there
     (λ i l.
     let behind = child_behind B at (record_at B at) (table (type_of B at)) p.tabled p.lined i l in

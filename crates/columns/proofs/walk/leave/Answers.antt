@@ -1,43 +1,31 @@
-use Rattle.std.proofs.Common.{◌≡◌, ℕ, ◌+◌, Bool, true, false, cond, List, get_or, ap, ◌∙◌}
-use Rattle.image.specs.Read.{typed_slot}
-use Rattle.image.specs.Slot.{null}
-use Rattle.leaves.specs.Rows.{is_leaf}
-use Rattle.row_rule.specs.Number.{number_of}
-use Rattle.columns.specs.Fold.{row_number}
-use Rattle.columns.specs.Jobs.{each, ended, reach_from, splice, standing, type_of}
+use Rattle.std.proofs.Common.{ℕ, ◌+◌, List, get_or, refl, ap, ◌∙◌, ap₂, arith}
+use Rattle.columns.specs.Jobs.{each, ended, part, reach_from, region, row_by, splice, standing}
+use Rattle.columns.proofs.Meeting.{split_splice}
+use Rattle.columns.proofs.Nodes.{node_short}
 use Rattle.columns.proofs.walk.leave.Goals as goal
 
-pub returns-then-is_leaf : goal.returns-then-is_leaf
-unfolding ended
-returns-then-is_leaf g c =
-    let n = c.args.node.now in
-    let j = c.args.job in
-    let w : List ℕ = c.args.work.now in
-    let t = type_of n.bytes.now n.number in
-    let ONE = g.S.BuildHasher.one c.args.state.now in
-    let SEED = g.S.HashState.seeded c.args.state.now in
-    let leaf : true ≡ is_leaf t = c.if-is_leaf.ensures ∙ ap is_leaf c.data_type.ensures in
-    c.hash_words.ensures
-    ∙ ap (λ (b : Bool).
-    splice j.at j.n w
-    (each (λ i. cond b (number_of ONE SEED j.first (get_or w (j.at + i) 0) (typed_slot t n.bytes.now n.r (λ _ _. null) (j.lo + i)))
-    (row_number t n.bytes.now n.r (standing w (j.at + j.n) (reach_from t n.bytes.now n.r j.lo)) j.first (get_or w (j.at + i) 0) (j.lo + i))) j.n)) leaf
+pub invariant_of-met : goal.invariant_of-met
+invariant_of-met g c =
+    let few = node_short c.args.node.now in
+    record {
+      listed = refl;
+      there = λ j l. omega (arith, c.requires.rows);
+      low = omega (arith, c.requires.rows);
+      fits = omega (arith, c.requires.rows, few.0);
+    }
 
-pub returns-else-is_leaf : goal.returns-else-is_leaf
+pub returns : goal.returns
 unfolding ended
-returns-else-is_leaf g c =
+returns g c =
     let n = c.args.node.now in
     let j = c.args.job in
     let w : List ℕ = c.args.work.now in
-    let t = type_of n.bytes.now n.number in
-    let ONE = g.S.BuildHasher.one c.args.state.now in
-    let SEED = g.S.HashState.seeded c.args.state.now in
-    let leaf : false ≡ is_leaf t = c.if-is_leaf.ensures ∙ ap is_leaf c.data_type.ensures in
-    c.fold_words.ensures
-    ∙ ap (λ (from : ℕ).
-    splice j.at j.n w
-    (each (λ i. row_number t n.bytes.now n.r (standing w (j.at + j.n) from) j.first (get_or w (j.at + i) 0) (j.lo + i)) j.n)) c.reach-from.ensures.from
-    ∙ ap (λ (b : Bool).
-    splice j.at j.n w
-    (each (λ i. cond b (number_of ONE SEED j.first (get_or w (j.at + i) 0) (typed_slot t n.bytes.now n.r (λ _ _. null) (j.lo + i)))
-    (row_number t n.bytes.now n.r (standing w (j.at + j.n) (reach_from t n.bytes.now n.r j.lo)) j.first (get_or w (j.at + i) 0) (j.lo + i))) j.n)) leaf
+    let B = n.column.bytes.now in
+    let r = n.column.record in
+    let row : ℕ → List ℕ → ℕ → ℕ → ℕ = λ from numbers i e. row_by (g.S.BuildHasher.one c.args.state.now) (g.S.HashState.seeded c.args.state.now) B n.t r (standing numbers from) j.first e (j.lo + i) in
+    let below = c.split_at_mut-rest.ensures in
+    let own = c.split_at_mut-words.ensures in
+    split_splice j.at j.n c.reach-reach.result.size w _ _ _ _ c.hash.new.words (row c.reach-reach.result.from) (omega (arith, c.requires.room)) below.front below.back own.front own.back c.hash.ensures
+    ∙ ap₂ (λ (from size : ℕ). splice j.at j.n w (each (λ i. row from (part (j.at + j.n) size w) i (get_or w (j.at + i) 0)) j.n))
+    (c.reach-reach.ensures.from ∙ ap (reach_from n.t B r) c.rows-span.ensures.from)
+    (c.reach-reach.ensures.size ∙ ap₂ (region n.t B r) c.rows-span.ensures.from c.rows-span.ensures.size)

@@ -1,20 +1,12 @@
-use Rattle.std.proofs.Common.{ℕ, ◌+◌, ◌*◌, ◌<◌, ◌≤◌, length, sym, subst}
+use Rattle.std.proofs.Common.{ℕ, ◌<◌, sym, subst}
 use Rattle.layout.specs.Records.{nodes}
 use Rattle.columns.proofs.Nodes.{node_child}
 use Rattle.columns.proofs.node.Node.child.Goals as goal
 
-pub child-number-requires : goal.child-number-requires
-child-number-requires c =
-    let n = c.args.self.now in
-    (node_child n.bytes.now n.sound n.number n.there n.r n.read c.args.index c.requires).0
+pub child-requires : goal.child-requires
+child-requires c = (node_child c.args.self.now c.args.index c.requires).0
 
-pub read-r-requires : goal.read-r-requires
-read-r-requires c =
+pub other-requires : goal.other-requires
+other-requires c =
     let n = c.args.self.now in
-    subst (λ (k : ℕ). 4 + 36 * k + 36 ≤ length n.bytes.now) (sym c.child-number.ensures) (node_child n.bytes.now n.sound n.number n.there n.r n.read c.args.index c.requires).2
-
-pub invariant_of-result : goal.invariant_of-result
-invariant_of-result c =
-    let n = c.args.self.now in
-    let there = (node_child n.bytes.now n.sound n.number n.there n.r n.read c.args.index c.requires).1 in
-    record { sound = n.sound; there = subst (λ (k : ℕ). k < nodes n.bytes.now) (sym c.child-number.ensures) there; read = c.read-r.ensures }
+    subst (λ (k : ℕ). k < nodes n.column.bytes.now) (sym c.child.ensures) (node_child n c.args.index c.requires).1

@@ -1,0 +1,201 @@
+// The rows that words meet, and the numbers that the words become.
+ghost use Rattle.std.specs.Prelude.{◌≡◌, ℕ, ◌+◌, ◌^◌, ◌<◌, ◌≤◌, true, false, length, slice_index};
+ghost use Rattle.columns.specs.Column.{met_rows};
+ghost use Rattle.columns.specs.Fold.{row_number};
+ghost use Rattle.columns.specs.Jobs.{reach_from, region as region_of, row_by, standing};
+ghost use Rattle.image.specs.Read.{typed_slot};
+ghost use Rattle.image.specs.Slot.{null};
+ghost use Rattle.leaves.specs.Rows.{by_place, is_leaf, row_of};
+ghost use Rattle.row_rule.specs.Number.{number_of};
+
+use crate::fold::References;
+use crate::nested::{
+    DictionaryArray, FixedSizeListArray, ListArray, ListViewArray, MapArray, NestedArray, RunArray,
+    StructArray,
+};
+use crate::node::Node;
+use crate::region::Region;
+use crate::span::Span;
+use hash_state::HashState;
+use layout::data_type::DataType;
+use leaves::{Rows, hash_leaf};
+use std::cell::Cell;
+
+// Rows of a node, each met by one of `n` words, hashed as first or not. `n` stands beside the list: without a list nothing
+// else tells how many rows are met.
+#[derive(Clone, Copy)]
+pub(crate) struct Met<'a, 'l> {
+    pub node: Node<'a>,
+    pub rows: Rows<'l>,
+    pub n: u32,
+    pub first: bool,
+    ghost listed: { met_rows n rows.list ≡ n },
+    ghost there: { (j : ℕ) → j < n → row_of rows.lo rows.list j < node.column.record.rows },
+    ghost low: { rows.lo ≤ node.column.record.rows },
+    ghost fits: { rows.lo + n < 2 ^ 32 },
+}
+
+// The rows from the least to the greatest of a list.
+fn bounds(list: &[u32], rows: u32) -> Span
+    requires { (j : ℕ) → j < length list.now → slice_index list.now j < rows }
+    ensures within { result.from + result.size ≤ rows }
+    ensures met { (j : ℕ) → j < length list.now → (result.from ≤ slice_index list.now j) × (slice_index list.now j < result.from + result.size) }
+{
+    let mut lo = rows;
+    let mut till = 0u32;
+    for row in list {
+        lo = lo.min(*row);
+        till = till.max(*row + 1);
+    }
+    if till <= lo {
+        return Span { from: 0, size: 0 };
+    }
+    Span {
+        from: lo,
+        size: till - lo,
+    }
+}
+
+impl Met<'_, '_> {
+    // The rows from the first to the last that is met. The list is taken apart by `let .. else`, as all lists of rows are.
+    pub(crate) fn span(&self) -> Span
+        ensures within { result.from + result.size ≤ self.now.node.column.record.rows }
+        ensures met { (j : ℕ) → j < self.now.n → (result.from ≤ row_of self.now.rows.lo self.now.rows.list j) × (row_of self.now.rows.lo self.now.rows.list j < result.from + result.size) }
+    {
+        let Some(list) = self.rows.list else {
+            return Span {
+                from: self.rows.lo,
+                size: self.n,
+            };
+        };
+        bounds(list, self.node.column.record.rows)
+    }
+
+    // Words that meet rows of a leaf.
+    fn hash_leaf<S: HashState>(&self, state: &S, words: &mut [u64])
+        requires leaf { is_leaf self.now.node.t ≡ true }
+        requires words { length words.old ≡ self.now.n }
+        ensures { words.new ≡ by_place (λ j e. number_of (S.BuildHasher.one state.now) (S.HashState.seeded state.now) self.now.first e (typed_slot self.now.node.t self.now.node.column.bytes.now self.now.node.column.record (λ _ _. null) (row_of self.now.rows.lo self.now.rows.list j))) 0 words.old }
+    {
+        hash_leaf(
+            self.node.column,
+            self.node.t,
+            self.rows,
+            state,
+            words,
+            self.first,
+        );
+    }
+}
+
+// Rows that words meet, of a span, and the numbers of the child rows that the span reaches.
+#[derive(Clone, Copy)]
+pub(crate) struct Fold<'a, 'l, 'w> {
+    pub met: Met<'a, 'l>,
+    pub span: Span,
+    pub region: Region<'w>,
+    ghost within: { span.from + span.size ≤ met.node.column.record.rows },
+    ghost covers: { (j : ℕ) → j < met.n → (span.from ≤ row_of met.rows.lo met.rows.list j) × (row_of met.rows.lo met.rows.list j < span.from + span.size) },
+    ghost from: { region.from ≡ reach_from met.node.t met.node.column.bytes.now met.node.column.record span.from },
+    ghost size: { length region.numbers.now ≡ region_of met.node.t met.node.column.bytes.now met.node.column.record span.from span.size },
+}
+
+impl Fold<'_, '_, '_> {
+    // The number of a row of the span, from its word; a row that is marked null keeps it.
+    fn number<A: NestedArray>(self, array: &A, row: u32, e: u64) -> u64
+        requires covered { (self.span.from ≤ row) × (row < self.span.from + self.span.size) }
+        requires column { A.NestedArray.column array.now ≡ self.met.node.column }
+        requires kind { A.NestedArray.data_type array.now ≡ self.met.node.t }
+        ensures { result ≡ row_number self.entry.met.node.t self.entry.met.node.column.bytes.now self.entry.met.node.column.record (standing self.entry.region.numbers.now self.entry.region.from) self.entry.met.first e row }
+    {
+        if self.met.node.is_marked(row) {
+            return e;
+        }
+        let at = self.met.node.column.element(row);
+        array.fold(at, self.region, self.met.first, e)
+    }
+
+    // Each word in place, at the row that it meets. A loop beside that of the leaves: one for both would take a closure
+    // whose contract speaks of values that are told and of regions that are folded. Words are lent apart from what they
+    // are folded by, so no field can say how many there are.
+    fn fold_each<A: NestedArray, F: Fn(usize) -> u32 + Drop>(
+        self,
+        array: &A,
+        row_at: F,
+        words: &mut [u64],
+    )
+        requires words { length words.old ≡ self.met.n }
+        requires column { A.NestedArray.column array.now ≡ self.met.node.column }
+        requires kind { A.NestedArray.data_type array.now ≡ self.met.node.t }
+        requires callable { (j : ℕ) → j < length words.old → F.pre row_at j }
+        requires rows { (j row : ℕ) → j < length words.old → F.post row_at j row → row ≡ row_of self.met.rows.lo self.met.rows.list j }
+        ensures { words.new ≡ by_place (λ j e. row_number self.entry.met.node.t self.entry.met.node.column.bytes.now self.entry.met.node.column.record (standing self.entry.region.numbers.now self.entry.region.from) self.entry.met.first e (row_of self.entry.met.rows.lo self.entry.met.rows.list j)) 0 words.old }
+    {
+        for (j, word) in words.iter_mut().enumerate() {
+            *word = self.number(array, row_at(j), *word);
+        }
+    }
+
+    // Folds the child rows' numbers into the words, by one kind of column: a loop for a list and a loop without one, so
+    // that no row looks for the list.
+    fn fold_array<A: NestedArray + Drop>(self, array: A, words: &mut [u64])
+        requires words { length words.old ≡ self.met.n }
+        requires column { A.NestedArray.column array ≡ self.met.node.column }
+        requires kind { A.NestedArray.data_type array ≡ self.met.node.t }
+        ensures { words.new ≡ by_place (λ j e. row_number self.entry.met.node.t self.entry.met.node.column.bytes.now self.entry.met.node.column.record (standing self.entry.region.numbers.now self.entry.region.from) self.entry.met.first e (row_of self.entry.met.rows.lo self.entry.met.rows.list j)) 0 words.old }
+    {
+        let lo = self.met.rows.lo;
+        let Some(list) = self.met.rows.list else {
+            self.fold_each(&array, |j| lo + j as u32, words);
+            return;
+        };
+        self.fold_each(&array, |j| list[j], words);
+    }
+
+    // The same by the kind that the column is of.
+    fn fold(self, words: &mut [u64])
+        requires nested { is_leaf self.met.node.t ≡ false }
+        requires words { length words.old ≡ self.met.n }
+        ensures { words.new ≡ by_place (λ j e. row_number self.entry.met.node.t self.entry.met.node.column.bytes.now self.entry.met.node.column.record (standing self.entry.region.numbers.now self.entry.region.from) self.entry.met.first e (row_of self.entry.met.rows.lo self.entry.met.rows.list j)) 0 words.old }
+    {
+        let node = self.met.node;
+        let column = node.column;
+        match node.t {
+            DataType::Struct => self.fold_array(StructArray(column), words),
+            DataType::List(width) => self.fold_array(ListArray { column, width }, words),
+            DataType::ListView(width) => self.fold_array(ListViewArray { column, width }, words),
+            DataType::Map => self.fold_array(MapArray(column), words),
+            DataType::FixedSizeList(size) => {
+                self.fold_array(FixedSizeListArray { column, size }, words)
+            }
+            DataType::Dictionary(width, signed) => {
+                let rows = References::of(&node);
+                let array = DictionaryArray {
+                    rows,
+                    width,
+                    signed,
+                };
+                self.fold_array(array, words)
+            }
+            DataType::RunEnd(width) => {
+                let rows = References::of(&node);
+                let runs = node.runs(width);
+                let before = Cell::new(0);
+                self.fold_array(RunArray { rows, runs, before }, words)
+            }
+            _ => unreachable(),
+        }
+    }
+
+    // Each word by the row rule: of a leaf by its row, else by the numbers of the row's child rows.
+    pub(crate) fn hash<S: HashState>(self, state: &S, words: &mut [u64])
+        requires { length words.old ≡ self.met.n }
+        ensures { words.new ≡ by_place (λ j e. row_by (S.BuildHasher.one state.now) (S.HashState.seeded state.now) self.entry.met.node.column.bytes.now self.entry.met.node.t self.entry.met.node.column.record (standing self.entry.region.numbers.now self.entry.region.from) self.entry.met.first e (row_of self.entry.met.rows.lo self.entry.met.rows.list j)) 0 words.old }
+    {
+        if self.met.node.is_leaf() {
+            self.met.hash_leaf(state, words);
+        } else {
+            self.fold(words);
+        }
+    }
+}

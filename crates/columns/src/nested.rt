@@ -1,0 +1,141 @@
+// The kinds of columns with children, each by how an element's number comes from the numbers of its child rows.
+ghost use Rattle.std.specs.Prelude.{◌≡◌, ◌^◌, ◌<◌, length};
+ghost use Rattle.columns.specs.Fold.{folded};
+ghost use Rattle.columns.specs.Jobs.{standing};
+ghost use Rattle.columns.specs.Seams.{FoldThere};
+ghost use Rattle.layout.specs.declared.column.Column.{Column};
+ghost use Rattle.layout.specs.declared.data_type.DataType.{DataType};
+ghost use Rattle.layout.specs.declared.data_type.DataType.TheVariants.{Dictionary, Struct, List as ListOf, ListView, Map, FixedSizeList, RunEnd};
+
+use crate::fold::{
+    References, hash_dictionary, hash_fixed_list_array, hash_list_array, hash_list_view_array,
+    hash_map_array, hash_run_array, hash_struct_array,
+};
+use crate::region::Region;
+use crate::runs::Runs;
+use layout::bytes::Width;
+use layout::column::Column;
+use std::cell::Cell;
+
+// A type for each kind, by the Rust's names: what `FoldThere` and `folded` say goes by the type.
+pub(crate) trait NestedArray {
+    ghost column: { Self → Column };
+
+    ghost data_type: { Self → DataType };
+
+    // The number of an element that is not marked null, from an entry.
+    fn fold(&self, at: usize, region: Region<'_>, first: bool, e: u64) -> u64
+        requires reached { FoldThere (data_type self.now) (column self.now).bytes.now (column self.now).record at region.from (length region.numbers.now) }
+        requires small { at < 2 ^ 32 }
+        ensures { result ≡ folded (data_type self.now) (column self.now).bytes.now (column self.now).record (standing region.entry.numbers.now region.entry.from) first e at };
+}
+
+#[derive(Drop)]
+pub(crate) struct StructArray<'a>(pub Column<'a>);
+
+impl NestedArray for StructArray<'_> {
+    ghost column = { λ s. s.0 };
+
+    ghost data_type = { λ s. Struct };
+
+    fn fold(&self, at: usize, region: Region<'_>, first: bool, e: u64) -> u64 {
+        hash_struct_array(&self.0, at, region, e)
+    }
+}
+
+#[derive(Drop)]
+pub(crate) struct ListArray<'a> {
+    pub column: Column<'a>,
+    pub width: Width,
+}
+
+impl NestedArray for ListArray<'_> {
+    ghost column = { λ s. s.column };
+
+    ghost data_type = { λ s. ListOf s.width };
+
+    fn fold(&self, at: usize, region: Region<'_>, first: bool, e: u64) -> u64 {
+        hash_list_array(&self.column, self.width, at, region, e)
+    }
+}
+
+#[derive(Drop)]
+pub(crate) struct ListViewArray<'a> {
+    pub column: Column<'a>,
+    pub width: Width,
+}
+
+impl NestedArray for ListViewArray<'_> {
+    ghost column = { λ s. s.column };
+
+    ghost data_type = { λ s. ListView s.width };
+
+    fn fold(&self, at: usize, region: Region<'_>, first: bool, e: u64) -> u64 {
+        hash_list_view_array(&self.column, self.width, at, region, e)
+    }
+}
+
+#[derive(Drop)]
+pub(crate) struct MapArray<'a>(pub Column<'a>);
+
+impl NestedArray for MapArray<'_> {
+    ghost column = { λ s. s.0 };
+
+    ghost data_type = { λ s. Map };
+
+    fn fold(&self, at: usize, region: Region<'_>, first: bool, e: u64) -> u64 {
+        hash_map_array(&self.0, at, region, e)
+    }
+}
+
+#[derive(Drop)]
+pub(crate) struct FixedSizeListArray<'a> {
+    pub column: Column<'a>,
+    pub size: u32,
+}
+
+impl NestedArray for FixedSizeListArray<'_> {
+    ghost column = { λ s. s.column };
+
+    ghost data_type = { λ s. FixedSizeList s.size };
+
+    fn fold(&self, at: usize, region: Region<'_>, first: bool, e: u64) -> u64 {
+        hash_fixed_list_array(self.size, at, region, e)
+    }
+}
+
+#[derive(Drop)]
+pub(crate) struct DictionaryArray<'a> {
+    pub rows: References<'a>,
+    pub width: Width,
+    pub signed: bool,
+}
+
+impl NestedArray for DictionaryArray<'_> {
+    ghost column = { λ s. s.rows.column };
+
+    ghost data_type = { λ s. Dictionary s.width s.signed };
+
+    fn fold(&self, at: usize, region: Region<'_>, first: bool, e: u64) -> u64 {
+        hash_dictionary(&self.rows, self.width, at, region, first, e)
+    }
+}
+
+// `before` is the run of the row before, as a guess: nothing rests on it.
+#[derive(Drop)]
+pub(crate) struct RunArray<'a> {
+    pub rows: References<'a>,
+    pub runs: Runs<'a>,
+    pub before: Cell<u32>,
+    ghost same: { runs.column ≡ rows.column },
+}
+
+impl NestedArray for RunArray<'_> {
+    ghost column = { λ s. s.rows.column };
+
+    ghost data_type = { λ s. RunEnd s.runs.width };
+
+    fn fold(&self, at: usize, region: Region<'_>, first: bool, e: u64) -> u64 {
+        hash_run_array(&self.rows, &self.runs, &self.before, at, region, first, e)
+    }
+}
