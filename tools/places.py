@@ -59,30 +59,33 @@ def twins():
             yield from (f"{len(names)} alike: {name}" for name in names)
 
 
+def shared(keys, least):
+    """What at least so many functions have in common, the commonest first, each with the functions that have it."""
+    having = collections.defaultdict(list)
+    for path, text in sources():
+        for name, parameters, whole in functions(text):
+            for key in keys(parameters, whole):
+                having[key].append(f"{path}: {name}")
+    return [(key, names) for key, names in sorted(having.items(), key=lambda h: -len(h[1])) if len(names) >= least]
+
+
+def facts(_, whole):
+    return re.findall(r"^\s*requires ?\w* ?\{ (.*) \}\s*$", whole.split("\n{", 1)[0], re.M)
+
+
+def pairs(parameters, _):
+    names = re.findall(r"(?:^|[\s(,])(\w+):(?!:)", parameters)
+    return [tuple(sorted((one, other))) for i, one in enumerate(names) for other in names[i + 1:]]
+
+
 def repeated():
     """Facts that three or more functions require."""
-    facts = collections.defaultdict(list)
-    for path, text in sources():
-        for name, _, whole in functions(text):
-            for fact in re.findall(r"^\s*requires ?\w* ?\{ (.*) \}\s*$", whole.split("\n{", 1)[0], re.M):
-                facts[fact].append(f"{path}: {name}")
-    for fact, names in sorted(facts.items(), key=lambda f: -len(f[1])):
-        if len(names) > 2:
-            yield from (f"{fact}: {name}" for name in names)
+    return (f"{fact}: {name}" for fact, names in shared(facts, 3) for name in names)
 
 
 def together():
     """Parameters by the same two names in five or more functions."""
-    pairs = collections.defaultdict(list)
-    for path, text in sources():
-        for name, parameters, _ in functions(text):
-            names = re.findall(r"(?:^|[\s(,])(\w+):(?!:)", parameters)
-            for i, one in enumerate(names):
-                for other in names[i + 1:]:
-                    pairs[tuple(sorted((one, other)))].append(f"{path}: {name}")
-    for pair, names in sorted(pairs.items(), key=lambda p: -len(p[1])):
-        if len(names) > 4:
-            yield f"{len(names)} functions: {', '.join(pair)}"
+    return (f"{len(names)} functions: {', '.join(pair)}" for pair, names in shared(pairs, 5))
 
 
 def main(wanted):

@@ -24,6 +24,13 @@ get_or-splice_in at n w ys k h e l =
     ∙ ap (λ (x : ℕ). get_or (ys ++ drop (at + n) w) x 0) (omega arith)
     ∙ get_or_append_left ys (drop (at + n) w) 0 k (omega arith)
 
+pub get_or-splice_above : (at n : ℕ) (w ys : List ℕ) (j : ℕ) → at + n ≤ length w → length ys ≡ n → at + n ≤ j → get_or (splice at n w ys) j 0 ≡ get_or w j 0
+get_or-splice_above at n w ys j h e l =
+    get_or-append_right (take at w) (ys ++ drop (at + n) w) at j 0 (length-take-le at w (omega arith)) (omega arith)
+    ∙ get_or-append_right ys (drop (at + n) w) n (j - at) 0 e (omega arith)
+    ∙ get_or-drop (at + n) w (j - at - n) 0
+    ∙ ap (λ (x : ℕ). get_or w x 0) (omega arith)
+
 -- what `&w[at..at + n]` holds
 pub length-lent : (at n : ℕ) (w : List ℕ) → at + n ≤ length w → length (take (at + n - at) (drop at w)) ≡ n
 length-lent at n w h = simp (length-take, length-drop) (omega arith)
