@@ -7,6 +7,7 @@ use text::number;
 pub enum Invocation {
     Help,
     Version,
+    Hash(String, Option<u64>),
     Show(String, Option<u64>),
     Replay,
 }
@@ -20,7 +21,14 @@ impl Invocation {
             "help" | "--help" | "-h" => Invocation::Help,
             "--version" => Invocation::Version,
             "replay" => Invocation::Replay,
-            "show" => parse_show(&mut args)?,
+            "hash" => {
+                let (path, node) = parse_column(&mut args)?;
+                Invocation::Hash(path, node)
+            }
+            "show" => {
+                let (path, node) = parse_column(&mut args)?;
+                Invocation::Show(path, node)
+            }
             _ => return Err(Failure::UnknownCommand(command)),
         };
         if let Some(word) = args.next() {
@@ -30,10 +38,11 @@ impl Invocation {
     }
 }
 
-fn parse_show(args: &mut Args) -> Result<Invocation, Failure> {
+// An image's file, and a node of it where one is named.
+fn parse_column(args: &mut Args) -> Result<(String, Option<u64>), Failure> {
     let path = args.next().ok_or(Failure::NoFile)?;
     let node = args.next().map(parse_node).transpose()?;
-    Ok(Invocation::Show(path, node))
+    Ok((path, node))
 }
 
 fn parse_node(word: String) -> Result<u64, Failure> {

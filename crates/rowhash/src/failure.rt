@@ -11,7 +11,7 @@ pub enum Failure {
     NoCommand,
     #[error("{0}: no such command (rowhash help lists them)")]
     UnknownCommand(String),
-    #[error("show: no file is given")]
+    #[error("no file is given")]
     NoFile,
     #[error("{0}: one argument too many")]
     TooManyArguments(String),

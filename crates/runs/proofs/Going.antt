@@ -1,0 +1,80 @@
+-- What is known of a call that is not refused.
+use Rattle.std.proofs.Common.{◌≡◌, ℕ, ◌<◌, ◌≤◌, Bool, true, false, cond, not, ◌||◌, ◌==◌, List, [], ◌∷◌, length, Some, None, Option, refl, sym, true≢false, le_trans, ltb-true, ltb-false, lt-ltb, eqb-true}
+use Rattle.std.proofs.lemmas.Bool.{and_parts}
+use Rattle.std.proofs.lemmas.Option.{none-some}
+use Rattle.std.specs.Cmp.Derive.{both_true}
+use Rattle.runs.specs.declared.call.Lent.{Lent}
+use Rattle.runs.specs.Columns.{Column, all_below, column_need, height, is_there, list_below, meeting}
+use Rattle.runs.specs.Refusals.{column_refusal, keep_refusal, most_columns, most_rows, read_refusal, unclaimed}
+
+-- a test that comes first did not apply, nor did what comes after it
+passed : (b : Bool) (n : ℕ) (rest : Option ℕ) → cond b (Some n) rest ≡ None → (b ≡ false) × (rest ≡ None)
+passed true n rest e = absurd (none-some n (sym e))
+passed false n rest e = (refl, e)
+
+not_false : (b : Bool) → not b ≡ false → b ≡ true
+not_false true e = refl
+not_false false e = absurd (true≢false e)
+
+neither : (a b : Bool) → (a || b) ≡ false → (a ≡ false) × (b ≡ false)
+neither true b e = absurd (true≢false e)
+neither false b e = (refl, e)
+
+pub record ColumnGoes (rows count : ℕ) (c : Column) (list : Option (List ℕ)) (lent : Lent) : Type 0 where
+  pub room : rows ≤ lent.entries
+  pub there : is_there c ≡ true
+  pub as_many : meeting c list ≡ rows
+  pub below : list_below (height c) list ≡ true
+  pub work : column_need c ≤ unclaimed lent
+  pub one_more : (count == most_columns) ≡ false
+
+pub column_goes : (rows count : ℕ) (c : Column) (list : Option (List ℕ)) (lent : Lent) → column_refusal rows count c list lent ≡ None → ColumnGoes rows count c list lent
+column_goes rows count c list lent e =
+    let a = passed _ 11 _ e in
+    let b = passed _ 12 _ a.1 in
+    let d = passed _ 13 _ b.1 in
+    let f = passed _ 14 _ d.1 in
+    let g = passed _ 15 _ f.1 in
+    let h = passed _ 16 _ g.1 in
+    record {
+      room = ltb-false _ _ a.0;
+      there = not_false _ d.0;
+      as_many = eqb-true _ _ (not_false _ f.0);
+      below = not_false _ g.0;
+      work = ltb-false _ _ h.0;
+      one_more = b.0;
+    }
+
+pub record KeepGoes (rows : ℕ) (list : List ℕ) (lent : Lent) : Type 0 where
+  pub room : rows ≤ lent.entries
+  pub fits : length list ≤ lent.entries
+  pub few : length list ≤ most_rows
+  pub below : all_below rows list ≡ true
+  pub work : length list ≤ unclaimed lent
+
+pub keep_goes : (rows : ℕ) (list : List ℕ) (lent : Lent) → keep_refusal rows list lent ≡ None → KeepGoes rows list lent
+keep_goes rows list lent e =
+    let a = passed _ 11 _ e in
+    let b = passed _ 14 _ a.1 in
+    let d = passed _ 15 _ b.1 in
+    let f = passed _ 16 _ d.1 in
+    let n = neither _ _ b.0 in
+    record {
+      room = ltb-false _ _ a.0;
+      fits = ltb-false _ _ n.0;
+      few = ltb-false _ _ n.1;
+      below = not_false _ d.0;
+      work = ltb-false _ _ f.0;
+    }
+
+pub read_goes : (rows row entries : ℕ) → read_refusal rows row entries ≡ None → (rows ≤ entries) × (row < rows)
+read_goes rows row entries e =
+    let a = passed _ 11 _ e in
+    let b = passed _ 17 _ a.1 in
+    (ltb-false _ _ a.0, ltb-true _ _ (not_false _ b.0))
+
+pub all_below_more : (a b : ℕ) (list : List ℕ) → a ≤ b → all_below a list ≡ true → all_below b list ≡ true
+all_below_more a b [] h e = refl
+all_below_more a b (k ∷ list) h e =
+    let p = and_parts _ _ e in
+    both_true (lt-ltb _ _ (le_trans (ltb-true _ _ p.0) h)) (all_below_more a b list h p.1)

@@ -1,0 +1,9 @@
+pub mod Columns
+pub mod Requests
+pub mod Refusals
+pub mod Ledger
+pub mod Reordering
+pub mod Apart
+pub mod State
+pub mod Agreement
+pub mod Runs

@@ -1,0 +1,45 @@
+-- The same rows by one keep and then the columns.
+use Rattle.std.specs.Prelude.{◌≡◌, ℕ, ◌+◌, ◌≤◌, List, [], ◌∷◌, ◌++◌, map, length, replicate, Some}
+use Rattle.hash_state.specs.Writes.{Write}
+use Rattle.runs.specs.declared.call.Lent.{Lent}
+use Rattle.runs.specs.Columns.{Column, column_need}
+use Rattle.runs.specs.Requests.{Request, column, keep, accepted}
+use Rattle.runs.specs.Refusals.{unclaimed}
+use Rattle.runs.specs.Ledger.{Met, Row, Ledger, answers, begun, run}
+
+-- a row before it met the latest column
+abbrev pub earlier_met : List Met → List Met
+earlier_met [] = []
+earlier_met (m ∷ earlier) = earlier
+
+abbrev pub earlier : Row → Row
+earlier r = record { origin = r.origin; entry = r.entry; met = earlier_met r.met }
+
+-- the row of the latest column that a row met
+abbrev pub latest_at : List Met → ℕ
+latest_at [] = 0
+latest_at (m ∷ earlier) = m.at
+
+-- one keep that lists the rows' origins, then the accepted columns in order, each listing for every row the column row whose slot it met
+abbrev pub reordered : Lent → List Row → List Column → List Request
+reordered lent rows [] = keep (map (λ r. r.origin) rows) lent ∷ []
+reordered lent rows (c ∷ columns) =
+    reordered lent (map earlier rows) columns ++ column c (Some (map (λ r. latest_at r.met) rows)) lent ∷ []
+
+-- enough entries for the rows before and after the keep, and work for the keep and each column
+abbrev pub EnoughWork : Lent → List Column → Type 0
+EnoughWork lent [] = Unit {0}
+EnoughWork lent (c ∷ columns) = (column_need c ≤ unclaimed lent) × EnoughWork lent columns
+
+pub record Enough (lent : Lent) (begun : ℕ) (l : Ledger) : Type 0 where
+  pub before : begun ≤ lent.entries
+  pub after : length l.rows ≤ lent.entries
+  pub keep : length l.rows ≤ unclaimed lent
+  pub columns : EnoughWork lent l.columns
+
+-- after the same begin none of these calls is refused, and they come to the same rows: as many, from the same origins and entries, with the same slots met, so with the same numbers
+abbrev pub Reorders : (List Write → ℕ) → (ℕ → List Write → ℕ) → List ℕ → Ledger → Type 0
+Reorders ONE SEED entries l =
+    (lent : Lent) → Enough lent (length entries) l
+    → (answers ONE SEED (begun entries) (reordered lent l.rows l.columns) ≡ replicate (1 + length l.columns) accepted)
+    × (run (begun entries) (reordered lent l.rows l.columns) ≡ l)

@@ -1,0 +1,61 @@
+-- What a run with its entries stands for, and what an answer says.
+use Rattle.std.specs.Prelude.{ℕ, List, length, Result, Ok, Err, Some, None, Option}
+use Rattle.std.specs.Borrow.{Bor}
+use Rattle.runs.specs.declared.account.WorkAccount.{WorkAccount}
+use Rattle.runs.specs.declared.call.Lent.{Lent}
+use Rattle.runs.specs.declared.fault.RunFault.{RunFault}
+use Rattle.runs.specs.declared.fault.RunFault.TheVariants.{Entries, Columns, Node, Length, Listed, Work, Row}
+use Rattle.runs.specs.declared.run.BegunRun.{BegunRun}
+use Rattle.runs.specs.declared.run.NewRun.{NewRun}
+use Rattle.runs.specs.declared.run.RowRead.{RowRead}
+use Rattle.runs.specs.Columns.{Column}
+use Rattle.runs.specs.Requests.{Reply, accepted, refused, row_read}
+use Rattle.runs.specs.State.{State}
+
+-- the numbers of the refusals
+abbrev pub fault_number : RunFault → ℕ
+fault_number Entries = 11
+fault_number Columns = 12
+fault_number Node = 13
+fault_number Length = 14
+fault_number Listed = 15
+fault_number Work = 16
+fault_number Row = 17
+
+abbrev pub fault_of : {T : Type 0} → Result T RunFault → Option ℕ
+fault_of (Ok _) = None
+fault_of (Err fault) = Some (fault_number fault)
+
+abbrev pub new : NewRun → List ℕ → State
+new run words = record { count = 0; rows = run.rows; words = words }
+
+abbrev pub begun : BegunRun → List ℕ → State
+begun run words = record { count = run.count; rows = run.rows; words = words }
+
+-- a first column gives a begun run, or the new run back
+abbrev pub either : Result BegunRun (NewRun × RunFault) → List ℕ → State
+either (Ok run) words = begun run words
+either (Err back) words = new back.0 words
+
+abbrev pub either_reply : Result BegunRun (NewRun × RunFault) → Reply
+either_reply (Ok run) = accepted
+either_reply (Err back) = refused (fault_number back.1)
+
+abbrev pub done_reply : {T : Type 0} → Result T RunFault → Reply
+done_reply (Ok _) = accepted
+done_reply (Err fault) = refused (fault_number fault)
+
+abbrev pub row_reply : Result RowRead RunFault → Reply
+row_reply (Ok read) = row_read read.number read.count
+row_reply (Err fault) = refused (fault_number fault)
+
+abbrev pub column_of : List ℕ → ℕ → Column
+column_of bytes node = record { bytes = bytes; node = node }
+
+abbrev pub list_of : Option (Bor (List ℕ)) → Option (List ℕ)
+list_of None = None
+list_of (Some list) = Some list.now
+
+-- what a call is lent, by the entries and the work that it is given, and the work's account
+abbrev pub lent : List ℕ → List ℕ → WorkAccount → Lent
+lent entries work account = record { entries = length entries; work = length work; claimed = account.claimed }

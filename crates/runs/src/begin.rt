@@ -1,0 +1,21 @@
+// The start of a run.
+ghost use Rattle.std.specs.Prelude.{◌≡◌, IfOk, length};
+ghost use Rattle.runs.specs.Refusals.{begin_refusal};
+ghost use Rattle.runs.specs.Runs.{fault_of};
+
+use crate::fault::RunFault;
+use crate::judge::judge_begin;
+use crate::run::NewRun;
+
+impl NewRun {
+    // A run with a row for each entry.
+    pub fn begin(entries: &[u64]) -> Result<NewRun, RunFault>
+        ensures fault { fault_of result ≡ begin_refusal (length entries.now) }
+        ensures rows { IfOk result (λ run. run.rows ≡ length entries.now) }
+    {
+        judge_begin(entries.len())?;
+        Ok(NewRun {
+            rows: entries.len() as u32,
+        })
+    }
+}
