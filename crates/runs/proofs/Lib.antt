@@ -1,3 +1,4 @@
 pub mod Lists
 pub mod Going
-pub mod Columns
+pub mod Steps
+pub mod Agreeing

@@ -26,16 +26,16 @@ abbrev pub fault_of : {T : Type 0} → Result T RunFault → Option ℕ
 fault_of (Ok _) = None
 fault_of (Err fault) = Some (fault_number fault)
 
-abbrev pub new : NewRun → List ℕ → State
-new run words = record { count = 0; rows = run.rows; words = words }
+abbrev pub new_run : NewRun → List ℕ → State
+new_run run words = record { count = 0; rows = run.rows; words = words }
 
-abbrev pub begun : BegunRun → List ℕ → State
-begun run words = record { count = run.count; rows = run.rows; words = words }
+abbrev pub begun_run : BegunRun → List ℕ → State
+begun_run run words = record { count = run.count; rows = run.rows; words = words }
 
 -- a first column gives a begun run, or the new run back
-abbrev pub either : Result BegunRun (NewRun × RunFault) → List ℕ → State
-either (Ok run) words = begun run words
-either (Err back) words = new back.0 words
+abbrev pub either_run : Result BegunRun (NewRun × RunFault) → List ℕ → State
+either_run (Ok run) words = begun_run run words
+either_run (Err back) words = new_run back.0 words
 
 abbrev pub either_reply : Result BegunRun (NewRun × RunFault) → Reply
 either_reply (Ok run) = accepted

@@ -1,8 +1,9 @@
 // A column: each row of the run meets a row of it.
 ghost use Rattle.std.specs.Prelude.{◌≡◌, ◌==◌, take, IfErr};
+ghost use Rattle.runs.specs.Agreement.{Follows};
 ghost use Rattle.runs.specs.Refusals.{column_refusal, unless};
 ghost use Rattle.runs.specs.Requests.{column};
-ghost use Rattle.runs.specs.Runs.{begun, column_of, done_reply, either, either_reply, fault_of, lent, list_of, new};
+ghost use Rattle.runs.specs.Runs.{begun_run, column_of, done_reply, either_run, either_reply, fault_of, lent, list_of, new_run};
 ghost use Rattle.runs.specs.State.{led_words, step, told};
 
 use crate::account::{Claim, WorkAccount};
@@ -67,8 +68,9 @@ impl NewRun {
         work: &mut [u64],
         account: &mut WorkAccount,
     ) -> Result<BegunRun, (NewRun, RunFault)>
-        ensures answer { either_reply result ≡ told (new self entries.old) (column (column_of image.now.bytes.now node) (list_of list.entry) (lent entries.old work.old account.old)) }
-        ensures state { either result entries.new ≡ step (S.BuildHasher.one state.now) (S.HashState.seeded state.now) (new self entries.old) (column (column_of image.now.bytes.now node) (list_of list.entry) (lent entries.old work.old account.old)) }
+        ensures ledger { Follows (S.BuildHasher.one state.now) (S.HashState.seeded state.now) (new_run self entries.old) (column (column_of image.now.bytes.now node) (list_of list.entry) (lent entries.old work.old account.old)) (either_reply result) (either_run result entries.new) }
+        ensures answer { either_reply result ≡ told (new_run self entries.old) (column (column_of image.now.bytes.now node) (list_of list.entry) (lent entries.old work.old account.old)) }
+        ensures state { either_run result entries.new ≡ step (S.BuildHasher.one state.now) (S.HashState.seeded state.now) (new_run self entries.old) (column (column_of image.now.bytes.now node) (list_of list.entry) (lent entries.old work.old account.old)) }
         ensures work { take account.old.claimed work.new ≡ take account.old.claimed work.old }
         ensures refused { IfErr result (λ _. work.new ≡ work.old) }
         ensures account { account.new ≡ account.old }
@@ -83,6 +85,7 @@ impl NewRun {
 
 impl BegunRun {
     // A later column.
+    #[tactic(auto, using(crate::proofs::Agreeing::follows))]
     pub fn column<S: HashState>(
         &mut self,
         image: &Image<'_>,
@@ -93,8 +96,9 @@ impl BegunRun {
         work: &mut [u64],
         account: &mut WorkAccount,
     ) -> Result<(), RunFault>
-        ensures answer { done_reply result ≡ told (begun self.old entries.old) (column (column_of image.now.bytes.now node) (list_of list.entry) (lent entries.old work.old account.old)) }
-        ensures state { begun self.new entries.new ≡ step (S.BuildHasher.one state.now) (S.HashState.seeded state.now) (begun self.old entries.old) (column (column_of image.now.bytes.now node) (list_of list.entry) (lent entries.old work.old account.old)) }
+        ensures ledger { Follows (S.BuildHasher.one state.now) (S.HashState.seeded state.now) (begun_run self.old entries.old) (column (column_of image.now.bytes.now node) (list_of list.entry) (lent entries.old work.old account.old)) (done_reply result) (begun_run self.new entries.new) }
+        ensures answer { done_reply result ≡ told (begun_run self.old entries.old) (column (column_of image.now.bytes.now node) (list_of list.entry) (lent entries.old work.old account.old)) }
+        ensures state { begun_run self.new entries.new ≡ step (S.BuildHasher.one state.now) (S.HashState.seeded state.now) (begun_run self.old entries.old) (column (column_of image.now.bytes.now node) (list_of list.entry) (lent entries.old work.old account.old)) }
         ensures work { take account.old.claimed work.new ≡ take account.old.claimed work.old }
         ensures refused { IfErr result (λ _. work.new ≡ work.old) }
         ensures account { account.new ≡ account.old }

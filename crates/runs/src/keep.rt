@@ -1,10 +1,11 @@
 // A keep: the rows that a list names, in its order.
 ghost use Rattle.std.specs.Prelude.{◌≡◌, ◌+◌, ◌≤◌, ℕ, List, true, length, map, slice_index, take, IfErr, IfOk};
 ghost use Rattle.hash_state.specs.Writes.{Write};
+ghost use Rattle.runs.specs.Agreement.{Follows};
 ghost use Rattle.runs.specs.Columns.{all_below};
 ghost use Rattle.runs.specs.Refusals.{keep_refusal, unless};
 ghost use Rattle.runs.specs.Requests.{keep};
-ghost use Rattle.runs.specs.Runs.{begun, done_reply, fault_of, lent, new};
+ghost use Rattle.runs.specs.Runs.{begun_run, done_reply, fault_of, lent, new_run};
 ghost use Rattle.runs.specs.State.{kept, step, told};
 
 use crate::account::{Claim, WorkAccount};
@@ -69,6 +70,7 @@ fn keep_rows(
 
 impl NewRun {
     // Row j takes the word of row list[j], and the run has as many rows as the list.
+    #[tactic(auto, using(crate::proofs::Agreeing::follows))]
     pub fn keep(
         &mut self,
         list: &[u32],
@@ -76,8 +78,9 @@ impl NewRun {
         work: &mut [u64],
         account: &mut WorkAccount,
     ) -> Result<(), RunFault>
-        ensures answer { done_reply result ≡ told (new self.old entries.old) (keep list.now (lent entries.old work.old account.old)) }
-        ensures state { (ONE : List Write → ℕ) (SEED : ℕ → List Write → ℕ) → new self.new entries.new ≡ step ONE SEED (new self.old entries.old) (keep list.now (lent entries.old work.old account.old)) }
+        ensures ledger { (ONE : List Write → ℕ) (SEED : ℕ → List Write → ℕ) → Follows ONE SEED (new_run self.old entries.old) (keep list.now (lent entries.old work.old account.old)) (done_reply result) (new_run self.new entries.new) }
+        ensures answer { done_reply result ≡ told (new_run self.old entries.old) (keep list.now (lent entries.old work.old account.old)) }
+        ensures state { (ONE : List Write → ℕ) (SEED : ℕ → List Write → ℕ) → new_run self.new entries.new ≡ step ONE SEED (new_run self.old entries.old) (keep list.now (lent entries.old work.old account.old)) }
         ensures work { take account.old.claimed work.new ≡ take account.old.claimed work.old }
         ensures refused { IfErr result (λ _. work.new ≡ work.old) }
         ensures account { account.new ≡ account.old }
@@ -89,6 +92,7 @@ impl NewRun {
 
 impl BegunRun {
     // The same of a run that has accepted columns.
+    #[tactic(auto, using(crate::proofs::Agreeing::follows))]
     pub fn keep(
         &mut self,
         list: &[u32],
@@ -96,8 +100,9 @@ impl BegunRun {
         work: &mut [u64],
         account: &mut WorkAccount,
     ) -> Result<(), RunFault>
-        ensures answer { done_reply result ≡ told (begun self.old entries.old) (keep list.now (lent entries.old work.old account.old)) }
-        ensures state { (ONE : List Write → ℕ) (SEED : ℕ → List Write → ℕ) → begun self.new entries.new ≡ step ONE SEED (begun self.old entries.old) (keep list.now (lent entries.old work.old account.old)) }
+        ensures ledger { (ONE : List Write → ℕ) (SEED : ℕ → List Write → ℕ) → Follows ONE SEED (begun_run self.old entries.old) (keep list.now (lent entries.old work.old account.old)) (done_reply result) (begun_run self.new entries.new) }
+        ensures answer { done_reply result ≡ told (begun_run self.old entries.old) (keep list.now (lent entries.old work.old account.old)) }
+        ensures state { (ONE : List Write → ℕ) (SEED : ℕ → List Write → ℕ) → begun_run self.new entries.new ≡ step ONE SEED (begun_run self.old entries.old) (keep list.now (lent entries.old work.old account.old)) }
         ensures work { take account.old.claimed work.new ≡ take account.old.claimed work.old }
         ensures refused { IfErr result (λ _. work.new ≡ work.old) }
         ensures account { account.new ≡ account.old }

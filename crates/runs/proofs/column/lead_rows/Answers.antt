@@ -4,7 +4,7 @@ use Rattle.admission.proofs.Sound.{sound_few}
 use Rattle.runs.specs.Refusals.{unless}
 use Rattle.runs.specs.Runs.{column_of, lent, list_of}
 use Rattle.runs.specs.State.{led_words}
-use Rattle.runs.proofs.Columns.{rows_meeting, rows_there, words_led}
+use Rattle.runs.proofs.Steps.{rows_meeting, rows_there, words_led}
 use Rattle.runs.proofs.Going.{column_goes}
 use Rattle.runs.proofs.column.lead_rows.Goals as goal
 

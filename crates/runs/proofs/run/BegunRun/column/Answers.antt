@@ -1,13 +1,20 @@
 use Rattle.std.proofs.Common.{sym, arith}
 use Rattle.std.proofs.lemmas.Bool.{eqb-false}
-use Rattle.runs.specs.Runs.{begun, column_of, lent, list_of}
-use Rattle.runs.proofs.Columns.{state_led, state_refused}
+use Rattle.runs.specs.Runs.{begun_run, column_of, lent, list_of}
+use Rattle.runs.proofs.Steps.{state_led, state_refused}
 use Rattle.runs.proofs.Going.{column_goes}
 use Rattle.runs.proofs.run.BegunRun.column.Goals as goal
+use Rattle.std.proofs.Common.{ℕ, ap, Option}
+use Rattle.runs.specs.Refusals.{unless}
+use Rattle.runs.specs.Requests.{column, accepted, refused}
+use Rattle.std.proofs.Common.{rules, ◌≡◌}
+use Rattle.runs.specs.State.{told}
+use Rattle.runs.specs.Runs.{lent, done_reply}
+use Rattle.runs.proofs.Agreeing.{follows}
 
 pub returns-in_err-lead_rows-clause-state : goal.returns-in_err-lead_rows-clause-state
 returns-in_err-lead_rows-clause-state g c =
-    state_refused _ _ (begun c.args.self.now c.args.entries.now) (column_of c.args.image.now.bytes.now c.args.node) (list_of c.args.list) _ c.lead_rows.new.entries c.lead_rows.ensures.entries _ c.in_err-lead_rows.ensures.fault
+    state_refused _ _ (begun_run c.args.self.now c.args.entries.now) (column_of c.args.image.now.bytes.now c.args.node) (list_of c.args.list) _ c.lead_rows.new.entries c.lead_rows.ensures.entries _ c.in_err-lead_rows.ensures.fault
 
 pub overflow_add-self : goal.overflow_add-self
 overflow_add-self g c =
@@ -17,4 +24,16 @@ overflow_add-self g c =
 
 pub returns-clause-state : goal.returns-clause-state
 returns-clause-state g c =
-    state_led _ _ (begun c.args.self.now c.args.entries.now) (column_of c.args.image.now.bytes.now c.args.node) (list_of c.args.list) _ c.lead_rows.new.entries c.lead_rows.ensures.entries c.in_ok-lead_rows.ensures.fault
+    state_led _ _ (begun_run c.args.self.now c.args.entries.now) (column_of c.args.image.now.bytes.now c.args.node) (list_of c.args.list) _ c.lead_rows.new.entries c.lead_rows.ensures.entries c.in_ok-lead_rows.ensures.fault
+
+pub returns-clause-ledger : goal.returns-clause-ledger
+returns-clause-ledger g c =
+    follows (g.S.BuildHasher.one c.args.state.now) (g.S.HashState.seeded c.args.state.now) (begun_run c.args.self.now c.args.entries.now) (column (column_of c.args.image.now.bytes.now c.args.node) (list_of c.args.list) (lent c.args.entries.now c.args.work.now c.args.account.now)) _ _
+    (ap (λ (o : Option ℕ). unless o refused accepted) c.in_ok-lead_rows.ensures.fault) (returns-clause-state g c)
+
+pub returns-in_err-lead_rows-clause-ledger : goal.returns-in_err-lead_rows-clause-ledger
+returns-in_err-lead_rows-clause-ledger g c =
+    let told_so : done_reply c.from_residual.result ≡ told (begun_run c.args.self.now c.args.entries.now) (column (column_of c.args.image.now.bytes.now c.args.node) (list_of c.args.list) (lent c.args.entries.now c.args.work.now c.args.account.now)) = search rules in
+    follows (g.S.BuildHasher.one c.args.state.now) (g.S.HashState.seeded c.args.state.now) (begun_run c.args.self.now c.args.entries.now)
+    (column (column_of c.args.image.now.bytes.now c.args.node) (list_of c.args.list) (lent c.args.entries.now c.args.work.now c.args.account.now)) _ _
+    told_so (returns-in_err-lead_rows-clause-state g c)

@@ -1,5 +1,5 @@
--- The words of a column are those of the run's rows.
-use Rattle.std.proofs.Common.{◌≡◌, ℕ, ◌+◌, ◌++◌, Bool, true, List, take, drop, [], ◌∷◌, ◌==◌, sym, Some, None, Option, refl, ap, ap₂, ◌∙◌, arith, Bor}
+-- What a column and a keep make of a run and its words is a step of its state.
+use Rattle.std.proofs.Common.{◌≡◌, ℕ, ◌+◌, ◌++◌, Bool, true, List, take, drop, [], ◌∷◌, ◌==◌, sym, Some, None, Option, refl, ap, ap₂, ◌∙◌, arith, Bor, length}
 use Rattle.hash_state.specs.Writes.{Write}
 use Rattle.layout.specs.Records.{record_at}
 use Rattle.image.specs.Read.{slot_at}
@@ -9,9 +9,9 @@ use Rattle.columns.specs.Column.{RowsThere, column_words, met_rows}
 use Rattle.runs.specs.Columns.{Column, list_below, meeting, met_at}
 use Rattle.runs.specs.Runs.{column_of, list_of}
 use Rattle.runs.specs.declared.call.Lent.{Lent}
-use Rattle.runs.specs.Refusals.{column_refusal, unless}
-use Rattle.runs.specs.Requests.{column}
-use Rattle.runs.specs.State.{State, led_words, step, taken}
+use Rattle.runs.specs.Refusals.{column_refusal, keep_refusal, unless}
+use Rattle.runs.specs.Requests.{column, keep}
+use Rattle.runs.specs.State.{State, kept, led_words, step, taken}
 use Rattle.runs.proofs.Lists.{below_at}
 
 pub row_met : (list : Option (Bor (List ℕ))) (j : ℕ) → row_of 0 list j ≡ met_at (list_of list) j
@@ -54,3 +54,20 @@ module _ (ONE : List Write → ℕ) (SEED : ℕ → List Write → ℕ) where
     state_led e =
         ap (λ (xs : List ℕ). record { count = s.count + 1; rows = s.rows; words = xs }) (led ∙ sym (outcome None e s.words _))
         ∙ outcome None e s (taken ONE SEED s (column c list lent))
+
+-- a keep that is refused leaves the state, and another has the rows of its list
+module _ (ONE : List Write → ℕ) (SEED : ℕ → List Write → ℕ) (s : State) (list : List ℕ) (lent : Lent) (words : List ℕ)
+    (led : words ≡ unless (keep_refusal s.rows list lent) (λ _. s.words) (kept list s.words)) where
+  decided : {X : Type 0} → (o : Option ℕ) → o ≡ keep_refusal s.rows list lent → (x y : X)
+      → unless o (λ _. x) y ≡ unless (keep_refusal s.rows list lent) (λ _. x) y
+  decided o e x y = ap (λ (p : Option ℕ). unless p (λ _. x) y) e
+
+  pub keep_refused : (n : ℕ) → Some n ≡ keep_refusal s.rows list lent → record { count = s.count; rows = s.rows; words = words } ≡ step ONE SEED s (keep list lent)
+  keep_refused n e =
+      ap (λ (xs : List ℕ). record { count = s.count; rows = s.rows; words = xs }) (led ∙ sym (decided (Some n) e s.words _))
+      ∙ decided (Some n) e s (taken ONE SEED s (keep list lent))
+
+  pub keep_led : (rows : ℕ) → rows ≡ length list → None ≡ keep_refusal s.rows list lent → record { count = s.count; rows = rows; words = words } ≡ step ONE SEED s (keep list lent)
+  keep_led rows n e =
+      ap₂ (λ (k : ℕ) (xs : List ℕ). record { count = s.count; rows = k; words = xs }) n (led ∙ sym (decided None e s.words _))
+      ∙ decided None e s (taken ONE SEED s (keep list lent))
