@@ -255,7 +255,7 @@ def reach(column):
     column.at = {}
 
     if kind == DICTIONARY:
-        most = 256**column.p // (2 if column.signed else 1)
+        most = min(MOST, 256**column.p // (2 if column.signed else 1))
         kids[0].rows += spare_rows(kids[0])
         for r in rng.sample(live, len(live)):  # in any order, so that keys are not sorted
             places = find(kids[0].rows, [rows[r].slot])
@@ -292,7 +292,7 @@ def reach(column):
 
     elif kind == LIST_VIEW:
         kids[0].rows += spare_rows(kids[0])
-        shared = rng.random() < 0.7
+        shared = rng.random() < 0.7 or len(kids[0].rows) == MOST
         order = rng.sample(live, len(live))
         if shared:  # the long ones first, so that the short ones are found in them
             order.sort(key=lambda r: -len(rows[r].elements))
@@ -506,6 +506,9 @@ def note(column, root):
         cover("no rows", kind, place)
         return
     cover("rows", kind, place, above)
+    for field, value in (("ROWS", len(column.rows)), ("START", column.start)):
+        if value == MOST:
+            cover("limit", field)
     if Null() in column.rows and column.start % 8:
         cover("null at START", kind, place)
     if kind in WIDTHS:
@@ -606,7 +609,7 @@ def required():
     wanted |= {("child rows of a null row", kind, place) for kind in (LIST, MAP) for place in both}
     wanted |= {("view", place, length) for place in both for length in (0, 4, 5, 12, 13)}
     wanted |= {("zero", place, p, sign) for place in both for p in WIDTHS[FLOAT] for sign in ("minus", "plus")}
-    wanted |= {("height 16", kind) for kind in KINDS}
+    wanted |= {("height 16", kind) for kind in KINDS} | {("limit", "ROWS"), ("limit", "START")}
     places = [(kind, "") for kind in NESTED if kind not in (STRUCT, MAP)]
     places += [(STRUCT, "field 0"), (STRUCT, "later field"), (MAP, "key"), (MAP, "value")]
     wanted |= {("below", parent, place, kind, True) for parent, place in places for kind in KINDS}
@@ -991,6 +994,14 @@ def cases_of_empty_rows():
         empty = Column(LIST, some_leaf(), lengths=(0,))
         kids = [some_leaf(), empty] if kind in (STRUCT, MAP) else [empty]
         case(Column(kind, *kids).drawn(4))
+
+    group("a child of as many rows as there may be")
+    low, high = Refer(Number(1, 5)), Refer(Number(1, 9))
+    runs = Column(RUN_END, Column(NUMBER, p=1), p=4, start=0, spare=(0,), split=0)
+    runs.holding(*[low] * (MOST - 2), high, high)
+    case(Column(LIST_VIEW, runs).holding(Sequence((low, high, high)), Null(), Sequence(()), Sequence((high,))),
+         Column(DICTIONARY, runs, p=4).holding(Refer(high), Null(), Refer(low)), states=[STANDARD])
+    assert len(runs.rows) == MOST
 
     group("START at its limit, where no buffer is needed for that")
     for column, slot in ((Column(NULL, start=MOST), Nothing()),
