@@ -1281,7 +1281,6 @@ def main():
     cases_of_lists_of_rows()
     missing = required() - covered
     assert not missing, sorted(missing, key=str)
-    table()
 
     text = "\n".join(["# tests/columns.py writes this file and says what the lines are"] + lines) + "\n"
     file = (pathlib.Path(words[0]) if words else ROOT / "crates" / "vectors") / "stdin"
@@ -1296,6 +1295,7 @@ def main():
         print(f"{made:4} images {asked:5} lines {numbers:6} numbers  {title}")
     made, asked, numbers = (sum(count[k] for count in counts) for k in (1, 2, 3))
     print(f"{made:4} images {asked:5} lines {numbers:6} numbers, {len(text):,} bytes")
+    table()
 
 
 if __name__ == "__main__":
