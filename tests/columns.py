@@ -1,8 +1,11 @@
 #!/usr/bin/env python3
 """Row numbers of columns: images with the number of each row.
 
-    tests/columns.py [DIRECTORY]            writes DIRECTORY/stdin (tests/rows if none is given)
+    tests/columns.py [DIRECTORY]            writes DIRECTORY/stdin (crates/vectors if none is given)
     tests/columns.py --check [DIRECTORY]    tries the images and whether the file is up to date
+
+crates/vectors reads the file and compares. Both ways end with a table of what
+the cases cover, and fail where they miss some of what `required` asks for.
 
 A case begins with columns by what they mean: each row is a slot, a tree of
 values (tests/model.py). The numbers are the model's, worked out from these
@@ -29,6 +32,7 @@ The choices are random but fixed: each group begins with the same seed every tim
 """
 
 import bisect
+import itertools
 import pathlib
 import random
 import sys
@@ -52,6 +56,8 @@ LEAVES = (NULL, BOOLEAN, NUMBER, FLOAT, UTF8, BINARY, FIXED_SIZE_BINARY, VIEW)
 NESTED = (DICTIONARY, STRUCT, LIST, LIST_VIEW, MAP, FIXED_SIZE_LIST, RUN_END)
 KINDS = LEAVES + NESTED
 UNMARKED = (NULL, RUN_END)  # kinds without null marks
+OFFSETS = (UTF8, BINARY, LIST, MAP)  # kinds with one offset more than elements
+TURNS = ("first", "later")
 STATES = (STANDARD, Z, REFERENCE)
 MOST = 1_048_576  # the limit of START and ROWS
 
@@ -86,7 +92,7 @@ class Column:
     """
 
     def __init__(self, kind, *children, p=None, signed=None, start=None, bitmap=None,
-                 null_rate=0.2, lengths=(0, 1, 2, 3), spare=(0, 1, 2), split=0.2):
+                 null_rate=0.2, lengths=(0, 1, 2, 3), spare=(0, 1, 2), split=0.2, lead=None):
         self.kind = kind
         self.children = children
         self.p = rng.choice(WIDTHS.get(kind, (0,))) if p is None else p
@@ -97,6 +103,7 @@ class Column:
         self.lengths = lengths  # of drawn lists and maps
         self.spare = spare  # how many rows no parent takes, at each end
         self.split = split  # how often a run is cut in two
+        self.lead = lead  # how many bytes stand before the first row's, if it matters
         self.rows = []
 
     def holding(self, *slots):
@@ -248,7 +255,7 @@ def reach(column):
     column.at = {}
 
     if kind == DICTIONARY:
-        most = 256**column.p // (2 if column.signed else 1)
+        most = min(MOST, 256**column.p // (2 if column.signed else 1))
         kids[0].rows += spare_rows(kids[0])
         for r in rng.sample(live, len(live)):  # in any order, so that keys are not sorted
             places = find(kids[0].rows, [rows[r].slot])
@@ -285,7 +292,7 @@ def reach(column):
 
     elif kind == LIST_VIEW:
         kids[0].rows += spare_rows(kids[0])
-        shared = rng.random() < 0.7
+        shared = rng.random() < 0.7 or len(kids[0].rows) == MOST
         order = rng.sample(live, len(live))
         if shared:  # the long ones first, so that the short ones are found in them
             order.sort(key=lambda r: -len(rows[r].elements))
@@ -381,8 +388,8 @@ def buffers(column):
             made["a"] = each(p, (junk(p) if slot == Null() else slot.value if kind == NUMBER else slot.bits
                                  for slot in rows))
         case 6 | 7:
-            text = rng.randbytes(rng.randrange(4))
-            ends = [len(text)]
+            text = rng.randbytes(rng.randrange(4) if column.lead is None else column.lead)
+            column.ends = ends = [len(text)]
             for slot in rows:
                 text += rng.randbytes(rng.randrange(4)) if slot == Null() else slot.data
                 ends.append(len(text))
@@ -494,12 +501,27 @@ def cover(*what):
 def note(column, root):
     """Notes what a laid out column has."""
     kind, place = column.kind, "root" if root else "child"
-    marked = kind not in UNMARKED and Null() in column.rows
-    cover("rows", kind, place, column.start > 0)
-    if marked and column.start % 8:
+    above = column.start > 0
+    if not column.rows:
+        cover("no rows", kind, place)
+        return
+    cover("rows", kind, place, above)
+    for field, value in (("ROWS", len(column.rows)), ("START", column.start)):
+        if value == MOST:
+            cover("limit", field)
+    if Null() in column.rows and column.start % 8:
         cover("null at START", kind, place)
-    if kind in WIDTHS and column.rows:
+    if kind in WIDTHS:
         cover("P", kind, column.p)
+    if kind in OFFSETS:
+        cover("first offset", kind, place, column.ends[0] > 0, above)
+    if above and any(child.start for child in column.children):
+        cover("START in parent and child", kind)
+    for slot in set(column.rows) - {Null()}:
+        if kind == VIEW:
+            cover("view", place, len(slot.data))
+        if kind == FLOAT and slot.bits << 1 & 256**column.p - 1 == 0:
+            cover("zero", place, column.p, "minus" if slot.bits else "plus")
     if kind == DICTIONARY:
         for key in column.at.values():
             cover("key", column.p, column.signed, "low" if key < 128 else "high")
@@ -515,9 +537,46 @@ def note(column, root):
                 cover("list views", column.p, "the same rows")
     if kind == RUN_END and column.cut:
         cover("run cut at both ends, runs behind", column.p)
+    if kind in (LIST, MAP):
+        for slot, low, high in zip(column.rows, column.ends, column.ends[1:]):
+            if slot == Null() and low < high:
+                cover("child rows of a null row", kind, place)
     for slot in column.rows if root else ():
         for met in directly_below(column, slot):
             cover("below", kind, *met)
+        for met in nulls_in(slot):
+            cover("null at level", met)
+        note_references(column, slot)
+
+
+def note_references(column, slot):
+    """Notes behind how many references a null is, with the kinds of the references."""
+    kinds = ()
+    while column.kind in (DICTIONARY, RUN_END):
+        kinds += (column.kind,)
+        if slot == Null():
+            break
+        column, slot = column.children[0], slot.slot
+        if slot == Null():
+            cover("null behind references", *kinds)
+
+
+def note_sharing(nodes):
+    """Notes which columns are below several others, or below one more than once."""
+    for child in nodes:
+        parents = [column for column in nodes if child in column.children]
+        for parent in parents:
+            if len(parents) > 1:
+                cover("child of several", parent.kind)
+            if parent.children.count(child) > 1:
+                cover("child of one twice", parent.kind, child.kind)
+
+
+def nulls_in(slot, level=1):
+    """At which levels a slot has nulls, its own being level 1."""
+    if slot == Null():
+        return {level}
+    return set().union(*(nulls_in(below, level + 1) for below in slots_in(slot)))
 
 
 def directly_below(column, slot):
@@ -539,8 +598,18 @@ def directly_below(column, slot):
 
 def required():
     """What has to be covered."""
-    wanted = {("rows", kind, place, above) for kind in KINDS for place in ("root", "child") for above in (True, False)}
-    wanted |= {("null at START", kind, place) for kind in KINDS if kind not in UNMARKED for place in ("root", "child")}
+    both = ("root", "child")
+    wanted = {("rows", kind, place, above) for kind in KINDS for place in both for above in (True, False)}
+    wanted |= {("no rows", kind, place) for kind in KINDS for place in both}
+    wanted |= {("START in parent and child", kind) for kind in NESTED}
+    wanted |= {("null at START", kind, place) for kind in KINDS if kind not in UNMARKED for place in both}
+    wanted |= {("null at level", level) for level in range(1, 17)}
+    wanted |= {("first offset", kind, place, positive, above)
+               for kind in OFFSETS for place in both for positive in (True, False) for above in (True, False)}
+    wanted |= {("child rows of a null row", kind, place) for kind in (LIST, MAP) for place in both}
+    wanted |= {("view", place, length) for place in both for length in (0, 4, 5, 12, 13)}
+    wanted |= {("zero", place, p, sign) for place in both for p in WIDTHS[FLOAT] for sign in ("minus", "plus")}
+    wanted |= {("height 16", kind) for kind in KINDS} | {("limit", "ROWS"), ("limit", "START")}
     places = [(kind, "") for kind in NESTED if kind not in (STRUCT, MAP)]
     places += [(STRUCT, "field 0"), (STRUCT, "later field"), (MAP, "key"), (MAP, "value")]
     wanted |= {("below", parent, place, kind, True) for parent, place in places for kind in KINDS}
@@ -553,7 +622,29 @@ def required():
     wanted |= {("list views", p, how) for p in (4, 8)
                for how in ("backwards", "backwards over each other", "the same rows")}
     wanted |= {("run cut at both ends, runs behind", p) for p in (2, 4, 8)}
-    return wanted
+    references = (DICTIONARY, RUN_END)
+    wanted |= {("null behind references", *kinds) for n in (1, 2, 3) for kinds in itertools.product(references, repeat=n)
+               if n < 3 or len(set(kinds)) == 1}
+    wanted |= {("child of several", kind) for kind in NESTED}
+    wanted |= {("child of one twice", parent, kind) for parent in (STRUCT, MAP) for kind in KINDS}
+    wanted |= {("map beside a list of structs", turn) for turn in TURNS}
+    return wanted | required_questions()
+
+
+def required_questions():
+    """What has to be asked."""
+    wanted = {("asked", kind, turn, state) for kind in KINDS for turn in TURNS for state in STATES}
+    wanted |= {("other state", state, turn) for state in (Fnv1a, SipHash24) for turn in TURNS}
+    wanted |= {("list of rows", kind, turn, how) for kind in KINDS for turn in TURNS for how in HOW}
+    return wanted | {("entry", what) for what in ("0", "above 0", "past 2^64 within a column")}
+
+
+def table():
+    """How much of each sort has to be covered, and how much of it is."""
+    wanted = required()
+    for sort in sorted({what[0] for what in wanted}):
+        asked = {what for what in wanted if what[0] == sort}
+        print(f"{len(asked & covered):4} of {len(asked):4} covered: {sort}")
 
 
 # ---------------------------------------------------------------------------
@@ -578,6 +669,8 @@ def show(image, nodes, roots=()):
     """The image of the following lines."""
     for column in nodes if roots else ():
         note(column, column in roots)
+    if roots:
+        note_sharing(nodes)
     lines.append("image " + image.hex())
     images.append((image, nodes))
     counts[-1][1] += 1
@@ -591,10 +684,37 @@ def under(state):
         lines.append(f"siphash {state.k0:#x} {state.k1:#x}")
 
 
+# how the rows of a list may stand to those of the column
+HOW = {
+    "none": lambda taken, count: not taken,
+    "repeating": lambda taken, count: len(set(taken)) < len(taken),
+    "backwards": lambda taken, count: any(low < high for high, low in zip(taken, taken[1:])),
+    "dropping": lambda taken, count: taken and len(set(taken)) < count,
+    "longer than the column": lambda taken, count: len(taken) > count,
+    "not from the first row on": lambda taken, count: taken and min(taken) > 0,
+}
+
+
+def note_question(state, turn, column, taken, entry):
+    """Notes what is asked."""
+    kind, count = column.kind, len(column.rows)
+    if state in STATES:
+        cover("asked", kind, turn, state)
+    else:
+        cover("other state", type(state), turn)
+    for how, holds in HOW.items():
+        if taken is not None and count and holds(taken, count):
+            cover("list of rows", kind, turn, how)
+    cover("entry", "above 0" if entry else "0")
+    if entry + count > U64 + 1:
+        cover("entry", "past 2^64 within a column")
+
+
 def ask(state, turn, node, rows, taken=None, entry=None):
     """The line of a column's rows, or of those in the list `taken`; its turn is first or later."""
     if entry is None:
         entry = rng.choice(ENTRIES + (rng.getrandbits(64),) * 3)
+    note_question(state, turn, images[-1][1][node], taken, entry)
     slots = rows if taken is None else [rows[r] for r in taken]
     numbers = [model.number(state, turn == "first", (entry + j) & U64, slot) for j, slot in enumerate(slots)]
     words = [turn, str(node), f"{entry:#x}" if entry > 9 else str(entry)]
@@ -649,20 +769,21 @@ def some_state():
                        SipHash24(rng.getrandbits(64), rng.getrandbits(64))))
 
 
+def slots_in(slot):
+    """The slots that a slot has directly in it."""
+    match slot:
+        case Refer(inner):
+            return (inner,)
+        case Struct(inner) | Sequence(inner):
+            return inner
+        case Map(entries):
+            return sum(entries, ())
+    return ()
+
+
 def depth(slot):
     """How many slots are nested in each other here; a null counts for none."""
-    match slot:
-        case Null():
-            return 0
-        case Refer(inner):
-            below = (inner,)
-        case Struct(inner) | Sequence(inner):
-            below = inner
-        case Map(entries):
-            below = sum(entries, ())
-        case _:
-            below = ()
-    return 1 + max(map(depth, below), default=0)
+    return 0 if slot == Null() else 1 + max(map(depth, slots_in(slot)), default=0)
 
 
 def fitting(slot, refer, sequence):
@@ -759,6 +880,10 @@ def cases_of_leaves():
             group(f"kind {kind}, {name}, P {p}: every length up to 40, text that is not ASCII or not UTF-8")
             lengths = [rng.randbytes(length) for length in range(41)]
             leaf_cases(kind, p, [made(data) for data in lengths + odd])
+        group(f"kind {kind}, {name}: first offsets of 0 and above, with START and without")
+        for start in (0, 3):
+            for lead in (0, 2):
+                case(Column(kind, start=start, lead=lead).drawn(4), states=[some_state()])
     for p in (0, 1, 7, 16, 300):
         group(f"kind 8, binary of fixed size, P {p}")
         leaf_cases(FIXED_SIZE_BINARY, p, [Binary(rng.randbytes(p)) for _ in range(5)] + [Binary(bytes(p))])
@@ -774,6 +899,11 @@ def cases_of_empty_columns():
         case(some_column(kind, start=0, bitmap=False))
         case(some_column(kind, start=0, bitmap=True, spare=(0,)))
         case(some_column(kind, start=3), lists=[()])
+        group(f"kind {kind}, no rows, below empty lists, null keys and a struct without rows")
+        for column in (Column(LIST, some_column(kind, spare=(0,)), lengths=(0,), null_rate=0).drawn(3),
+                       Column(DICTIONARY, some_column(kind, spare=(0,))).holding(Null(), Null()),
+                       Column(STRUCT, some_column(kind, spare=(0,)), start=0)):
+            case(column, states=[some_state()])
 
 
 def cases_of_pairs():
@@ -865,6 +995,14 @@ def cases_of_empty_rows():
         kids = [some_leaf(), empty] if kind in (STRUCT, MAP) else [empty]
         case(Column(kind, *kids).drawn(4))
 
+    group("a child of as many rows as there may be")
+    low, high = Refer(Number(1, 5)), Refer(Number(1, 9))
+    runs = Column(RUN_END, Column(NUMBER, p=1), p=4, start=0, spare=(0,), split=0)
+    runs.holding(*[low] * (MOST - 2), high, high)
+    case(Column(LIST_VIEW, runs).holding(Sequence((low, high, high)), Null(), Sequence(()), Sequence((high,))),
+         Column(DICTIONARY, runs, p=4).holding(Refer(high), Null(), Refer(low)), states=[STANDARD])
+    assert len(runs.rows) == MOST
+
     group("START at its limit, where no buffer is needed for that")
     for column, slot in ((Column(NULL, start=MOST), Nothing()),
                          (Column(STRUCT, start=MOST, bitmap=False), Struct(())),
@@ -920,6 +1058,21 @@ def same_shape(column):
     return Column(column.kind, *map(same_shape, column.children), p=column.p, signed=column.signed)
 
 
+def cases_of_maps():
+    group("maps beside lists of structs over the same keys and values")
+    for key, value in ((NUMBER, UTF8), (UTF8, NUMBER), (VIEW, LIST), (STRUCT, DICTIONARY)):
+        keys, values = some_column(key), some_column(value)
+        maps = Column(MAP, keys, values).drawn(5)
+        structs = Column(LIST, Column(STRUCT, keys, values, null_rate=0))
+        structs.holding(*(slot if slot == Null() else Sequence(tuple(map(Struct, slot.entries))) for slot in maps.rows))
+        case(maps, structs)
+        pairs = [pair for pair in zip(maps.rows, structs.rows) if slots_in(pair[0])]
+        for turn in TURNS:
+            if pairs and all(len({model.number(STANDARD, turn == "first", 0, slot) for slot in pair}) == 2
+                             for pair in pairs):
+                cover("map beside a list of structs", turn)
+
+
 def cases_of_references():
     group("references to references, with nulls at each level")
     for outer in (DICTIONARY, RUN_END):
@@ -954,6 +1107,8 @@ def cases_of_heights():
                             lengths=(1, 1, 1, 2), spare=(0, 0, 1))
         while max(map(depth, column.rows), default=0) < 16:  # nulls on the way may hide the leaf
             column.drawn(3)
+        for kind in kinds[:1] + [leaf.kind]:
+            cover("height 16", kind)
         return column
 
     for kind in NESTED:
@@ -1119,6 +1274,7 @@ def main():
     cases_of_structs()
     cases_of_empty_rows()
     cases_of_sharing()
+    cases_of_maps()
     cases_of_references()
     cases_of_heights()
     cases_of_trees()
@@ -1127,7 +1283,7 @@ def main():
     assert not missing, sorted(missing, key=str)
 
     text = "\n".join(["# tests/columns.py writes this file and says what the lines are"] + lines) + "\n"
-    file = (pathlib.Path(words[0]) if words else ROOT / "tests" / "rows") / "stdin"
+    file = (pathlib.Path(words[0]) if words else ROOT / "crates" / "vectors") / "stdin"
     if checking:
         for image, columns in images:
             check(image, columns)
@@ -1139,6 +1295,7 @@ def main():
         print(f"{made:4} images {asked:5} lines {numbers:6} numbers  {title}")
     made, asked, numbers = (sum(count[k] for count in counts) for k in (1, 2, 3))
     print(f"{made:4} images {asked:5} lines {numbers:6} numbers, {len(text):,} bytes")
+    table()
 
 
 if __name__ == "__main__":

@@ -1,0 +1,205 @@
+// The numbers of columns, as standard input has them.
+ghost use Rattle.std.specs.Prelude.{◌≡◌, ◌^◌, ◌<◌, true, IfSome, length};
+ghost use Rattle.columns.specs.Column.{RowsThere, met_rows};
+ghost use Rattle.columns.specs.Jobs.{need};
+ghost use Rattle.layout.specs.Records.{nodes, record_at};
+
+use crate::line::{Line, Question, State};
+use anyhow::{Context, anyhow};
+use columns::{hash_column, node_need};
+use hash_state::{Fnv1aState, HashState};
+use image::place::Image;
+use std::alloc::Global;
+use std::io::{BufRead, BufReader, Stdin};
+
+// Words that are lent behind the rows' entries, and in front of the work as claimed: both have to stay.
+const PAST: usize = 3;
+
+const CLAIMED: usize = 5;
+
+// What the work holds before a call, so that words show that should have been cleared.
+const UNCLEARED: u64 = 0x9e3779b97f4a7c15;
+
+// How far the lines are read, and what of them agreed.
+#[derive(Clone, Copy)]
+struct Progress {
+    line: u64,
+    state: State,
+    images: u64,
+    columns: u64,
+    numbers: u64,
+}
+
+pub(crate) fn check(rt: &HostRuntime) -> anyhow::Result<()> {
+    let mut input = BufReader::new(rt.alloc(), rt.stdin())?;
+    let mut progress = Progress {
+        line: 0,
+        state: State::Fnv1a(Fnv1aState::new()),
+        images: 0,
+        columns: 0,
+        numbers: 0,
+    };
+    let checked = check_images(rt.alloc(), &mut input, &mut progress);
+    let line = progress.line;
+    checked.context(format_args!("line {line} of standard input"))?;
+    let images = progress.images;
+    let columns = progress.columns;
+    let numbers = progress.numbers;
+    println!(rt; "columns: {columns} columns of {images} images: {numbers} numbers agree")?;
+    Ok(())
+}
+
+// An image borrows its bytes, so each is checked by a call of its own.
+fn check_images(
+    heap: Global,
+    input: &mut BufReader<Stdin>,
+    progress: &mut Progress,
+) -> anyhow::Result<()> {
+    let mut next = progress.check_lines(heap, input, &Image::empty())?;
+    // a count, since nothing tells how many images are to come
+    for _ in 0..u64::MAX {
+        let Some(bytes) = next else {
+            break;
+        };
+        next = progress.check_image(heap, input, bytes.as_slice())?;
+    }
+    Ok(())
+}
+
+impl Progress {
+    fn check_image(
+        &mut self,
+        heap: Global,
+        input: &mut BufReader<Stdin>,
+        bytes: &[u8],
+    ) -> anyhow::Result<Option<Vec<u8>>> {
+        let mut image = Image::empty();
+        if let Err(fault) = image.admit(bytes) {
+            let (number, node) = fault.numbered();
+            return Err(anyhow!("the image is refused: {number} at node {node}"));
+        }
+        self.images = self.images.saturating_add(1);
+        self.check_lines(heap, input, &image)
+    }
+
+    // Checks lines until one brings another image, whose bytes it gives, or there are no more.
+    fn check_lines(
+        &mut self,
+        heap: Global,
+        input: &mut BufReader<Stdin>,
+        image: &Image<'_>,
+    ) -> anyhow::Result<Option<Vec<u8>>> {
+        for line in input.split(heap, b'\n') {
+            self.line = self.line.saturating_add(1);
+            match Line::parse(heap, line?.as_slice())? {
+                Some(Line::PassedOver) => {}
+                Some(Line::Image(bytes)) => return Ok(Some(bytes)),
+                Some(Line::State(state)) => self.state = state,
+                Some(Line::Column(question)) => self.check_column(heap, image, &question)?,
+                None => return Err(anyhow!("not understood")),
+            }
+        }
+        Ok(None)
+    }
+
+    fn check_column(
+        &mut self,
+        heap: Global,
+        image: &Image<'_>,
+        question: &Question,
+    ) -> anyhow::Result<()> {
+        match self.state {
+            State::Fnv1a(state) => check_numbers(heap, &state, image, question)?,
+            State::SipHash(state) => check_numbers(heap, &state, image, question)?,
+        }
+        self.columns = self.columns.saturating_add(1);
+        self.numbers = self.numbers.saturating_add(question.numbers.len() as u64);
+        Ok(())
+    }
+}
+
+// Whether each row that is met is there.
+fn are_there(list: Option<&[u32]>, rows: u32) -> bool
+    ensures { result ≡ true → RowsThere rows list.entry }
+{
+    let Some(list) = list else {
+        return true;
+    };
+    list.iter().all(|row| *row < rows)
+}
+
+// The words of work that a column needs which meets so many words, or none where there is no such column.
+fn need_of(image: &Image<'_>, node: u64, list: Option<&[u32]>, count: usize) -> Option<usize>
+    ensures there { IfSome result (λ _. node < nodes image.now.bytes.now) }
+    ensures rows { IfSome result (λ _. RowsThere (record_at image.now.bytes.now node).rows list.entry) }
+    ensures count { IfSome result (λ _. met_rows (record_at image.now.bytes.now node).rows list.entry ≡ count) }
+    ensures few { IfSome result (λ _. count < 2 ^ 32) }
+    ensures need { IfSome result (λ n. n ≡ need image.now.bytes.now node) }
+    ensures fits { IfSome result (λ n. n < 2 ^ 32) }
+{
+    let rows = image.node(node)?.rows;
+    let met = match list {
+        Some(list) => list.len(),
+        None => rows as usize,
+    };
+    if met != count || count > u32::MAX as usize || !are_there(list, rows) {
+        return None;
+    }
+    Some(node_need(image, node)? as usize)
+}
+
+// Entries that count up from one on.
+fn count_up(entries: &mut [u64], from: u64)
+    ensures { length entries.new ≡ length entries.old }
+{
+    for (j, entry) in entries.iter_mut().enumerate() {
+        *entry = from.wrapping_add(j as u64);
+    }
+}
+
+// Compares the numbers that a column leaves in entries with those of a question.
+fn check_numbers<S: HashState>(
+    heap: Global,
+    state: &S,
+    image: &Image<'_>,
+    question: &Question,
+) -> anyhow::Result<()> {
+    let list = match &question.list {
+        Some(list) => Some(list.as_slice()),
+        None => None,
+    };
+    let count = question.numbers.len();
+    let Some(need) = need_of(image, question.node, list, count) else {
+        return Err(anyhow!("no such column, or not so many numbers"));
+    };
+    let mut entries = vec![in heap; 0; count + PAST]?;
+    let mut work = vec![in heap; UNCLEARED; CLAIMED + need]?;
+    count_up(entries.as_mut_slice(), question.entry);
+    hash_column(
+        image,
+        question.node as u32,
+        list,
+        question.first,
+        state,
+        entries.as_mut_slice(),
+        work.as_mut_slice(),
+        CLAIMED,
+    );
+    compare(entries.as_slice(), question)?;
+    if work.iter().take(CLAIMED).any(|word| *word != UNCLEARED) {
+        return Err(anyhow!("a claimed word of the work has changed"));
+    }
+    Ok(())
+}
+
+// Entries behind the numbers have to be as they were.
+fn compare(entries: &[u64], question: &Question) -> anyhow::Result<()> {
+    for (j, entry) in entries.iter().enumerate() {
+        let before = question.entry.wrapping_add(j as u64);
+        let number = question.numbers.get(j).copied().unwrap_or(before);
+        if *entry != number {
+            return Err(anyhow!("row {j} has {entry:#x} and not {number:#x}"));
+        }
+    }
+    Ok(())
+}
