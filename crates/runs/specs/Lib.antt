@@ -7,3 +7,5 @@ pub mod Apart
 pub mod State
 pub mod Agreement
 pub mod Runs
+pub mod Calls
+pub mod Lasting

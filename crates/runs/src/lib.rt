@@ -10,3 +10,4 @@ mod judge;
 mod keep;
 mod read;
 pub mod run;
+mod stage;

@@ -1,0 +1,62 @@
+-- What calls ask for, and what their answers say.
+use Rattle.std.specs.Prelude.{ℕ, zero, suc, min, Bool, false, cond, List, [], ◌∷◌, map, length, ◌==◌, slice_index_or}
+use Rattle.std.specs.Borrow.{Bor}
+use Rattle.image.specs.declared.place.Image.{Image}
+use Rattle.runs.specs.declared.call.Answer.{Answer}
+use Rattle.runs.specs.declared.call.Answer.TheVariants.{Accepted, Refused, Row}
+use Rattle.runs.specs.declared.call.Call.{Call}
+use Rattle.runs.specs.declared.call.Call.TheVariants.{Column, Keep, Read}
+use Rattle.runs.specs.declared.call.Lent.{Lent}
+use Rattle.runs.specs.declared.call.Stage.{Stage}
+use Rattle.runs.specs.declared.call.Stage.TheVariants.{New, Begun}
+use Rattle.runs.specs.Requests.{Request, Reply, column, keep, read, accepted, refused, row_read}
+use Rattle.runs.specs.Ledger.{Ledger, next}
+use Rattle.runs.specs.State.{State}
+use Rattle.runs.specs.Runs.{begun_run, column_of, fault_number, list_of, new_run}
+
+abbrev pub stage_run : Stage → List ℕ → State
+stage_run (New run) words = new_run run words
+stage_run (Begun run) words = begun_run run words
+
+abbrev pub reply_of : Answer → Reply
+reply_of Accepted = accepted
+reply_of (Refused fault) = refused (fault_number fault)
+reply_of (Row told) = row_read told.number told.count
+
+abbrev pub images_bytes : List (Bor Image) → List (List ℕ)
+images_bytes images = map (λ image. image.now.bytes.now) images
+
+-- the bytes of the image at a place: none, which are the empty image's, where there is no such place
+abbrev pub bytes_at : List (Bor Image) → ℕ → List ℕ
+bytes_at images k = slice_index_or (images_bytes images) k []
+
+-- a call is lent no more than there is
+abbrev pub lent_of : ℕ → ℕ → Lent → Lent
+lent_of entries work lent = record { entries = min lent.entries entries; work = min lent.work work; claimed = lent.claimed }
+
+-- what a call asks for, of so many words of entries and work in all
+abbrev pub request_of : List (Bor Image) → ℕ → ℕ → Call → Request
+request_of images entries work (Column image node list lent) = column (column_of (bytes_at images image) node) (list_of list) (lent_of entries work lent)
+request_of images entries work (Keep list lent) = keep list.now (lent_of entries work lent)
+request_of images entries work (Read row room) = read row (min room entries)
+
+-- the words at the front of the work that a call leaves, of so many
+abbrev pub spared : ℕ → Call → ℕ
+spared work (Column image node list lent) = lent.claimed
+spared work (Keep list lent) = lent.claimed
+spared work (Read row room) = work
+
+abbrev pub all_spared : ℕ → List Call → ℕ
+all_spared work [] = work
+all_spared work (call ∷ calls) = min (spared work call) (all_spared work calls)
+
+-- a read of a run that has accepted no column is none of the calls: a program that makes it does not build
+abbrev pub is_misuse : ℕ → Request → Bool
+is_misuse count (column c list lent) = false
+is_misuse count (keep list lent) = false
+is_misuse count (read k entries) = count == 0
+
+-- how many of the requests are made: those before the first misuse
+abbrev pub made : Ledger → List Request → ℕ
+made l [] = 0
+made l (q ∷ rest) = cond (is_misuse (length l.columns) q) 0 (suc (made (next l q) rest))
