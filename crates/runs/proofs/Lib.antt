@@ -2,3 +2,4 @@ pub mod Lists
 pub mod Going
 pub mod Steps
 pub mod Agreeing
+pub mod Parts

@@ -1,6 +1,7 @@
 -- What calls ask for, and what their answers say.
-use Rattle.std.specs.Prelude.{ℕ, zero, suc, min, Bool, false, cond, List, [], ◌∷◌, map, length, ◌==◌, slice_index_or}
+use Rattle.std.specs.Prelude.{◌≡◌, ℕ, zero, suc, min, Bool, true, false, cond, List, [], ◌∷◌, map, length, ◌==◌, slice_index_or, MatchOption, Option}
 use Rattle.std.specs.Borrow.{Bor}
+use Rattle.hash_state.specs.Writes.{Write}
 use Rattle.image.specs.declared.place.Image.{Image}
 use Rattle.runs.specs.declared.call.Answer.{Answer}
 use Rattle.runs.specs.declared.call.Answer.TheVariants.{Accepted, Refused, Row}
@@ -11,7 +12,7 @@ use Rattle.runs.specs.declared.call.Stage.{Stage}
 use Rattle.runs.specs.declared.call.Stage.TheVariants.{New, Begun}
 use Rattle.runs.specs.Requests.{Request, Reply, column, keep, read, accepted, refused, row_read}
 use Rattle.runs.specs.Ledger.{Ledger, next}
-use Rattle.runs.specs.State.{State}
+use Rattle.runs.specs.State.{State, step, told}
 use Rattle.runs.specs.Runs.{begun_run, column_of, fault_number, list_of, new_run}
 
 abbrev pub stage_run : Stage → List ℕ → State
@@ -60,3 +61,9 @@ is_misuse count (read k entries) = count == 0
 abbrev pub made : Ledger → List Request → ℕ
 made l [] = 0
 made l (q ∷ rest) = cond (is_misuse (length l.columns) q) 0 (suc (made (next l q) rest))
+
+-- a call that is made answers and leaves what its request comes to; a misuse answers nothing, and nothing changes
+abbrev pub Made : (List Write → ℕ) → (ℕ → List Write → ℕ) → State → Request → Option Answer → State → Type 0
+Made ONE SEED s q answer s' =
+    MatchOption answer ((is_misuse s.count q ≡ true) × (s' ≡ s))
+    (λ a. (is_misuse s.count q ≡ false) × (reply_of a ≡ told s q) × (s' ≡ step ONE SEED s q))

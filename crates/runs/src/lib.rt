@@ -9,5 +9,6 @@ pub mod fault;
 mod judge;
 mod keep;
 mod read;
+pub mod replay;
 pub mod run;
 mod stage;

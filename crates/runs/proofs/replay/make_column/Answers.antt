@@ -1,0 +1,34 @@
+use Rattle.std.proofs.Common.{ℕ, List, ◌≡◌, length, take, drop, sym, ap, ◌∙◌, arith, take-append-drop}
+use Rattle.runs.specs.declared.call.Lent.{Lent}
+use Rattle.runs.specs.Calls.{lent_of, stage_run}
+use Rattle.runs.specs.Requests.{Request, column}
+use Rattle.runs.specs.Runs.{column_of, list_of}
+use Rattle.runs.specs.State.{step, told}
+use Rattle.runs.proofs.Parts.{lent_part, part_step, part_told, spared_part}
+use Rattle.runs.proofs.replay.make_column.Goals as goal
+
+pub returns-clause-answer : goal.returns-clause-answer
+returns-clause-answer g c =
+    let es : List ℕ = c.args.entries.now in
+    let ws : List ℕ = c.args.work.now in
+    let room : ℕ = c.min-room.result in
+    let q : Lent → Request = λ l. column (column_of c.args.image.now.bytes.now c.args.node) (list_of c.args.list) l in
+    let l = lent_part es ws c.args.lent room c.min-words.result c.min-room.ensures c.min-words.ensures in
+    c.column.ensures.answer
+    ∙ ap (λ (l : Lent). told (stage_run c.args.stage (take room es)) (q l)) l
+    ∙ part_told c.args.stage (take room es) (drop room es) es (take-append-drop room es) (q (lent_of (length es) (length ws) c.args.lent)) (ap (λ (l : Lent). l.entries) (sym l))
+
+pub returns-clause-state : goal.returns-clause-state
+returns-clause-state g c =
+    let es : List ℕ = c.args.entries.now in
+    let ws : List ℕ = c.args.work.now in
+    let room : ℕ = c.min-room.result in
+    let q : Lent → Request = λ l. column (column_of c.args.image.now.bytes.now c.args.node) (list_of c.args.list) l in
+    let l = lent_part es ws c.args.lent room c.min-words.result c.min-room.ensures c.min-words.ensures in
+    part_step c.args.stage (take room es) (drop room es) es (take-append-drop room es) (q (lent_of (length es) (length ws) c.args.lent)) (ap (λ (l : Lent). l.entries) (sym l))
+    (g.S.BuildHasher.one c.args.state.now) (g.S.HashState.seeded c.args.state.now) c.column.result.0 c.column.new.entries
+    (c.column.ensures.state ∙ ap (λ (l : Lent). step (g.S.BuildHasher.one c.args.state.now) (g.S.HashState.seeded c.args.state.now) (stage_run c.args.stage (take room es)) (q l)) l)
+
+pub returns-clause-work : goal.returns-clause-work
+returns-clause-work g c =
+    spared_part c.args.lent.claimed c.min-words.result c.args.work.now c.column.new.work (omega (arith, c.min-words.ensures)) c.column.auto.work c.column.ensures.work
