@@ -2,3 +2,5 @@ pub mod Lists
 pub mod Going
 pub mod Steps
 pub mod Agreeing
+pub mod Ledgers
+pub mod Reordering
