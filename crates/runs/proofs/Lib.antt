@@ -4,3 +4,4 @@ pub mod Steps
 pub mod Agreeing
 pub mod Ledgers
 pub mod Reordering
+pub mod Staying
