@@ -12,14 +12,7 @@ use Rattle.runs.specs.Ledger.{Met, Row, Ledger, added, all_meet, answer, answers
 use Rattle.runs.specs.State.{State, kept, led_words, new_state, replies, step, steps, taken, told}
 use Rattle.runs.specs.Agreement.{Agrees, Follows, Holds}
 use Rattle.runs.proofs.Going.{keep_goes, read_goes}
-
-length-all_meet : (c : Column) (at : ℕ → ℕ) (j : ℕ) (rows : List Row) → length (all_meet c at j rows) ≡ length rows
-length-all_meet c at j [] = refl
-length-all_meet c at j (r ∷ rows) = ap suc (length-all_meet c at (j + 1) rows)
-
-length-entered : (j : ℕ) (entries : List ℕ) → length (entered j entries) ≡ length entries
-length-entered j [] = refl
-length-entered j (e ∷ entries) = ap suc (length-entered (j + 1) entries)
+use Rattle.runs.proofs.Ledgers.{length-all_meet, length-entered}
 
 first_when_none : {X : Type 0} → (xs : List X) (n : ℕ) → length xs ≡ n → (n == 0) ≡ is_first xs
 first_when_none [] n e = eq-eqb n 0 (sym e)
