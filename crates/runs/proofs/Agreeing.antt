@@ -1,5 +1,5 @@
 -- A ledger and a run that agree do so after each call, and the answers are the ledger's.
-use Rattle.std.proofs.Common.{◌≡◌, ℕ, zero, suc, ◌+◌, ◌<◌, Bool, true, false, List, [], ◌∷◌, ◌++◌, map, length, take, drop, get_or, ◌==◌, slice_index, Some, None, Option, refl, sym, ap, ap₂, subst, ◌∙◌, arith, ltb-true, eq-eqb, ne_eqb}
+use Rattle.std.proofs.Common.{◌≡◌, ℕ, zero, suc, ◌+◌, ◌<◌, ◌≤◌, Bool, true, List, [], ◌∷◌, ◌++◌, map, length, take, drop, ◌==◌, slice_index, Some, None, Option, refl, sym, ap, ap₂, subst, ◌∙◌, arith, length-take-le, ltb-true, eq-eqb, ne_eqb}
 use Rattle.std.proofs.lemmas.Bool.{and_parts}
 use Rattle.std.proofs.lemmas.List.{length-map}
 use Rattle.hash_state.specs.Writes.{Write}
@@ -7,9 +7,10 @@ use Rattle.row_rule.specs.Number.{number_of}
 use Rattle.leaves.specs.Rows.{by_place}
 use Rattle.runs.specs.Columns.{Column, all_below, met_at, slot}
 use Rattle.runs.specs.Requests.{Request, Reply, column, keep, read, accepted, refused, row_read}
-use Rattle.runs.specs.Refusals.{keep_refusal, read_refusal, refusal, reply, unless}
-use Rattle.runs.specs.Ledger.{Met, Row, Ledger, added, all_meet, answer, answers, begun, entered, is_first, next, no_row, number, row_at, run}
-use Rattle.runs.specs.State.{State, kept, led_words, new_state, replies, step, steps, taken, told}
+use Rattle.runs.specs.Refusals.{refusal, unless}
+use Rattle.runs.specs.Ledger.{Row, Ledger, added, all_meet, answer, answers, begun, entered, is_first, next, number, row_at, run}
+use Rattle.runs.specs.State.{State, led_words, new_state, replies, step, steps, taken, told}
+use Rattle.runs.specs.Lasting.{begun_state}
 use Rattle.runs.specs.Agreement.{Agrees, Follows, Holds}
 use Rattle.runs.proofs.Going.{keep_goes, read_goes}
 use Rattle.runs.proofs.Ledgers.{length-all_meet, length-entered}
@@ -50,6 +51,16 @@ module _ (ONE : List Write → ℕ) (SEED : ℕ → List Write → ℕ) where
 
   pub agrees_begun : (entries : List ℕ) → Agrees ONE SEED (begun entries) (new_state entries)
   agrees_begun entries = record { rows = sym (length-entered 0 entries); count = refl; holds = holds_entered 0 entries }
+
+  -- a new run over more words than begin took
+  holds_taken : (j n : ℕ) (words : List ℕ) → Holds ONE SEED 0 (entered j (take n words)) words
+  holds_taken j zero words = tt
+  holds_taken j (suc n) [] = tt
+  holds_taken j (suc n) (w ∷ words) = (refl, refl, holds_taken (j + 1) n words)
+
+  pub agrees_taken_words : (rows : ℕ) (words : List ℕ) → rows ≤ length words → Agrees ONE SEED (begun (take rows words)) (begun_state rows words)
+  agrees_taken_words rows words h =
+      record { rows = sym (length-entered 0 (take rows words) ∙ length-take-le rows words h); count = refl; holds = holds_taken 0 rows words }
 
   agrees_taken : (l : Ledger) (s : State) (q : Request) → Agrees ONE SEED l s → refusal s.rows s.count q ≡ None → Agrees ONE SEED (added l q) (taken ONE SEED s q)
   agrees_taken l s (column c list lent) a o =

@@ -6,3 +6,4 @@ pub mod Parts
 pub mod Ledgers
 pub mod Reordering
 pub mod Staying
+pub mod Replaying

@@ -1,5 +1,5 @@
 -- A call on the first words alone is the call on all of them.
-use Rattle.std.proofs.Common.{◌≡◌, ℕ, zero, suc, ◌+◌, ◌<◌, ◌≤◌, true, List, [], ◌∷◌, ◌++◌, map, length, take, drop, ◌==◌, slice_index, Some, None, Option, refl, sym, ap, ap₂, ◌∙◌, arith, ltb-true, append_assoc, min, inl, inr, take-append-drop, length-take-le}
+use Rattle.std.proofs.Common.{◌≡◌, ℕ, ◌+◌, ◌<◌, ◌≤◌, true, List, [], ◌∷◌, ◌++◌, map, length, take, drop, ◌==◌, slice_index, Some, None, Option, refl, sym, ap, ap₂, ◌∙◌, arith, ltb-true, append_assoc, min, inl, inr, take-append-drop, length-take-le}
 use Rattle.std.proofs.lemmas.Bool.{and_parts, cases_lt}
 use Rattle.std.proofs.lemmas.List.{take_all, take-append-le, drop-append-le, get_or_append_left}
 use Rattle.hash_state.specs.Writes.{Write}

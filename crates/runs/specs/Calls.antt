@@ -1,5 +1,5 @@
 -- What calls ask for, and what their answers say.
-use Rattle.std.specs.Prelude.{◌≡◌, ℕ, zero, suc, min, Bool, true, false, cond, List, [], ◌∷◌, map, length, ◌==◌, slice_index_or, MatchOption, Option}
+use Rattle.std.specs.Prelude.{◌≡◌, ℕ, suc, min, Bool, true, false, cond, List, [], ◌∷◌, map, length, take, ◌==◌, slice_index_or, MatchOption, Option}
 use Rattle.std.specs.Borrow.{Bor}
 use Rattle.hash_state.specs.Writes.{Write}
 use Rattle.image.specs.declared.place.Image.{Image}
@@ -67,3 +67,7 @@ abbrev pub Made : (List Write → ℕ) → (ℕ → List Write → ℕ) → Stat
 Made ONE SEED s q answer s' =
     MatchOption answer ((is_misuse s.count q ≡ true) × (s' ≡ s))
     (λ a. (is_misuse s.count q ≡ false) × (reply_of a ≡ told s q) × (s' ≡ step ONE SEED s q))
+
+-- what the calls ask for, as many as there are places for answers
+abbrev pub requests_of : List (Bor Image) → ℕ → ℕ → ℕ → List Call → List Request
+requests_of images entries work places calls = map (request_of images entries work) (take (min (length calls) places) calls)

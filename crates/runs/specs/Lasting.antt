@@ -8,7 +8,7 @@ use Rattle.runs.specs.Apart.{StaysApart}
 use Rattle.runs.specs.State.{State, steps}
 use Rattle.runs.specs.Agreement.{Agrees}
 
--- a run with a row for each of the first words
+-- a new run with so many rows over these words
 abbrev pub begun_state : ℕ → List ℕ → State
 begun_state rows words = record { count = 0; rows = rows; words = words }
 
@@ -16,10 +16,10 @@ begun_state rows words = record { count = 0; rows = rows; words = words }
 abbrev pub ledger_after : List ℕ → List Request → ℕ → Ledger
 ledger_after entries requests n = run (begun entries) (take n requests)
 
--- after each of the calls, the first n of them: the answers so far are the ledger's; the run has as many rows as the ledger, and each row's word is its number; the rows come back by one keep and the columns; and they stay apart
-pub record Lasting (ONE : List Write → ℕ) (SEED : ℕ → List Write → ℕ) (start : State) (requests : List Request) (replies : List Reply) (end : State) : Type 0 where
-  pub answered : (n : ℕ) → n ≤ length requests → take n replies ≡ answers ONE SEED (begun (take start.rows start.words)) (take n requests)
-  pub agreed : (n : ℕ) → n ≤ length requests → Agrees ONE SEED (ledger_after (take start.rows start.words) requests n) (steps ONE SEED start (take n requests))
+-- after begin took the entries and gave the start, and after each of the calls, the first n of them: the answers so far are the ledger's; the run has as many rows as the ledger, and each row's word is its number; the rows come back by one keep and the columns; and they stay apart
+pub record Lasting (ONE : List Write → ℕ) (SEED : ℕ → List Write → ℕ) (entries : List ℕ) (start : State) (requests : List Request) (replies : List Reply) (end : State) : Type 0 where
+  pub answered : (n : ℕ) → n ≤ length requests → take n replies ≡ answers ONE SEED (begun entries) (take n requests)
+  pub agreed : (n : ℕ) → n ≤ length requests → Agrees ONE SEED (ledger_after entries requests n) (steps ONE SEED start (take n requests))
   pub ended : end ≡ steps ONE SEED start requests
-  pub reorders : (n : ℕ) → n ≤ length requests → Reorders ONE SEED (take start.rows start.words) (ledger_after (take start.rows start.words) requests n)
-  pub apart : (n : ℕ) → n ≤ length requests → StaysApart ONE SEED (ledger_after (take start.rows start.words) requests n)
+  pub reorders : (n : ℕ) → n ≤ length requests → Reorders ONE SEED entries (ledger_after entries requests n)
+  pub apart : (n : ℕ) → n ≤ length requests → StaysApart ONE SEED (ledger_after entries requests n)

@@ -1,13 +1,18 @@
 // A list of calls of one run, made one after the other.
-ghost use Rattle.std.specs.Prelude.{◌≡◌, ℕ, ◌<◌, List, [], min, take, length, slice_index_or, MatchOption};
+ghost use Rattle.std.specs.Prelude.{◌≡◌, ℕ, ◌<◌, ◌≤◌, List, [], IfOk, IfErr, MatchOption, drop, length, map, min, slice_index_or, take};
 ghost use Rattle.hash_state.specs.Writes.{Write};
-ghost use Rattle.runs.specs.Calls.{Made, bytes_at, lent_of, reply_of, request_of, spared, stage_run};
+ghost use Rattle.runs.specs.Calls.{Made, all_spared, bytes_at, lent_of, made, reply_of, request_of, requests_of, spared, stage_run};
+ghost use Rattle.runs.specs.Lasting.{Lasting, begun_state};
+ghost use Rattle.runs.specs.Ledger.{begun};
+ghost use Rattle.runs.specs.Refusals.{begin_refusal, most_rows};
 ghost use Rattle.runs.specs.Requests.{column, keep, read};
-ghost use Rattle.runs.specs.Runs.{column_of, list_of};
+ghost use Rattle.runs.specs.Runs.{column_of, fault_of, list_of};
 ghost use Rattle.runs.specs.State.{step, told};
 
 use crate::account::WorkAccount;
 use crate::call::{Answer, Call, Lent, Replayed, Stage};
+use crate::fault::RunFault;
+use crate::run::NewRun;
 use hash_state::HashState;
 use image::place::Image;
 
@@ -69,12 +74,7 @@ fn make_keep(
     let mut account = WorkAccount {
         claimed: lent.claimed,
     };
-    stage.keep(
-        list,
-        &mut entries[..room],
-        &mut work[..words],
-        &mut account,
-    )
+    stage.keep(list, &mut entries[..room], &mut work[..words], &mut account)
 }
 
 // None where a read meets a run that has accepted no column.
@@ -104,7 +104,9 @@ fn make<S: HashState>(
             lent,
         } => {
             let image = image_at(images, image);
-            let (stage, answer) = make_column(stage, &image, node, list, lent, state, entries, work);
+            let (stage, answer) = make_column(
+                stage, &image, node, list, lent, state, entries, work,
+            );
             (stage, Some(answer))
         }
         Call::Keep { list, lent } => {
@@ -116,4 +118,56 @@ fn make<S: HashState>(
             (stage, answer)
         }
     }
+}
+
+// The calls of a run that begin gave, as many as there are places for answers, each answer in its place.
+fn make_all<S: HashState>(
+    run: NewRun,
+    calls: &[Call<'_>],
+    images: &[&Image<'_>],
+    state: &S,
+    entries: &mut [u64],
+    work: &mut [u64],
+    answers: &mut [Answer],
+) -> Replayed
+    requires room { run.rows ≤ length entries.old }
+    requires few { run.rows ≤ most_rows }
+    ensures made { result.made ≡ made (begun (take run.rows entries.old)) (requests_of images.now (length entries.old) (length work.old) (length answers.old) calls.now) }
+    ensures lasting { Lasting (S.BuildHasher.one state.now) (S.HashState.seeded state.now) (take run.rows entries.old) (begun_state run.rows entries.old) (take result.made (requests_of images.now (length entries.old) (length work.old) (length answers.old) calls.now)) (map reply_of (take result.made answers.new)) (stage_run result.stage entries.new) }
+    ensures behind { drop result.made answers.new ≡ drop result.made answers.old }
+    ensures work { take (all_spared (length work.old) (take result.made calls.now)) work.new ≡ take (all_spared (length work.old) (take result.made calls.now)) work.old }
+{
+    let mut stage = Stage::New(run);
+    let count = calls.len().min(answers.len());
+    for made in 0..count {
+        let (next, answer) = make(stage, calls[made], images, state, entries, work);
+        stage = next;
+        let Some(answer) = answer else {
+            return Replayed { stage, made };
+        };
+        answers[made] = answer;
+    }
+    Replayed { stage, made: count }
+}
+
+// Begin takes the first `rows` words of the entries, or all where there are fewer; then come the calls. A read that meets a
+// run without a column is none of them, and ends it.
+pub fn replay<S: HashState>(
+    rows: usize,
+    calls: &[Call<'_>],
+    images: &[&Image<'_>],
+    state: &S,
+    entries: &mut [u64],
+    work: &mut [u64],
+    answers: &mut [Answer],
+) -> Result<Replayed, RunFault>
+    ensures refused { fault_of result ≡ begin_refusal (min rows (length entries.old)) }
+    ensures made { IfOk result (λ r. r.made ≡ made (begun (take (min rows (length entries.old)) entries.old)) (requests_of images.now (length entries.old) (length work.old) (length answers.old) calls.now)) }
+    ensures lasting { IfOk result (λ r. Lasting (S.BuildHasher.one state.now) (S.HashState.seeded state.now) (take (min rows (length entries.old)) entries.old) (begun_state (min rows (length entries.old)) entries.old) (take r.made (requests_of images.now (length entries.old) (length work.old) (length answers.old) calls.now)) (map reply_of (take r.made answers.new)) (stage_run r.stage entries.new)) }
+    ensures behind { IfOk result (λ r. drop r.made answers.new ≡ drop r.made answers.old) }
+    ensures work { IfOk result (λ r. take (all_spared (length work.old) (take r.made calls.now)) work.new ≡ take (all_spared (length work.old) (take r.made calls.now)) work.old) }
+    ensures unchanged { IfErr result (λ _. (entries.new ≡ entries.old) × (work.new ≡ work.old) × (answers.new ≡ answers.old)) }
+{
+    let run = NewRun::begin(&entries[..rows.min(entries.len())])?;
+    Ok(make_all(run, calls, images, state, entries, work, answers))
 }

@@ -48,13 +48,7 @@ impl Stage {
             },
             Stage::Begun(mut run) => {
                 let answer = Answer::done(run.column(
-                    image,
-                    node,
-                    list,
-                    state,
-                    entries,
-                    work,
-                    account,
+                    image, node, list, state, entries, work, account,
                 ));
                 (Stage::Begun(run), answer)
             }

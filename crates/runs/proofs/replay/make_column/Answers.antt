@@ -1,4 +1,4 @@
-use Rattle.std.proofs.Common.{ℕ, List, ◌≡◌, length, take, drop, sym, ap, ◌∙◌, arith, take-append-drop}
+use Rattle.std.proofs.Common.{ℕ, List, length, take, drop, sym, ap, ◌∙◌, arith, take-append-drop}
 use Rattle.runs.specs.declared.call.Lent.{Lent}
 use Rattle.runs.specs.Calls.{lent_of, stage_run}
 use Rattle.runs.specs.Requests.{Request, column}

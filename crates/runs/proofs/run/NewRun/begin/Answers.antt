@@ -1,4 +1,3 @@
-use Rattle.std.proofs.Common.{rules}
 use Rattle.runs.proofs.Agreeing.{agrees_begun}
 use Rattle.runs.proofs.run.NewRun.begin.Goals as goal
 
