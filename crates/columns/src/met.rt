@@ -5,6 +5,7 @@ ghost use Rattle.columns.specs.Fold.{row_number};
 ghost use Rattle.columns.specs.Jobs.{reach_from, region as region_of, row_by, standing};
 ghost use Rattle.image.specs.Read.{typed_slot};
 ghost use Rattle.image.specs.Slot.{null};
+ghost use Rattle.layout.specs.declared.data_type.DataType.TheVariants.{Dictionary, List as ListOf};
 ghost use Rattle.leaves.specs.Rows.{by_place, is_leaf, row_of};
 ghost use Rattle.row_rule.specs.Number.{number_of};
 
@@ -17,9 +18,11 @@ use crate::node::Node;
 use crate::region::Region;
 use crate::span::Span;
 use hash_state::HashState;
+use layout::bytes::Width;
 use layout::data_type::DataType;
 use leaves::{Rows, hash_leaf};
 use std::cell::Cell;
+use std::marker::PhantomData;
 
 // Rows of a node, each met by one of `n` words, hashed as first or not. `n` stands beside the list: without a list nothing
 // else tells how many rows are met.
@@ -152,6 +155,88 @@ impl Fold<'_, '_, '_> {
         self.fold_each(&array, |j| list[j], words);
     }
 
+    // The same of lists, by the type of their offsets.
+    fn fold_list(self, width: Width, words: &mut [u64])
+        requires words { length words.old ≡ self.met.n }
+        requires kind { self.met.node.t ≡ ListOf width }
+        ensures { words.new ≡ by_place (λ j e. row_number self.entry.met.node.t self.entry.met.node.column.bytes.now self.entry.met.node.column.record (standing self.entry.region.numbers.now self.entry.region.from) self.entry.met.first e (row_of self.entry.met.rows.lo self.entry.met.rows.list j)) 0 words.old }
+    {
+        let column = self.met.node.column;
+        match width {
+            Width::One => self.fold_array(
+                ListArray {
+                    column,
+                    offsets: PhantomData::<u8>,
+                },
+                words,
+            ),
+            Width::Two => self.fold_array(
+                ListArray {
+                    column,
+                    offsets: PhantomData::<u16>,
+                },
+                words,
+            ),
+            Width::Four => self.fold_array(
+                ListArray {
+                    column,
+                    offsets: PhantomData::<u32>,
+                },
+                words,
+            ),
+            Width::Eight => self.fold_array(
+                ListArray {
+                    column,
+                    offsets: PhantomData::<u64>,
+                },
+                words,
+            ),
+        }
+    }
+
+    // The same of a dictionary, by the type of its keys.
+    fn fold_dictionary(self, width: Width, signed: bool, words: &mut [u64])
+        requires words { length words.old ≡ self.met.n }
+        requires kind { self.met.node.t ≡ Dictionary width signed }
+        ensures { words.new ≡ by_place (λ j e. row_number self.entry.met.node.t self.entry.met.node.column.bytes.now self.entry.met.node.column.record (standing self.entry.region.numbers.now self.entry.region.from) self.entry.met.first e (row_of self.entry.met.rows.lo self.entry.met.rows.list j)) 0 words.old }
+    {
+        let rows = References::of(&self.met.node);
+        match width {
+            Width::One => self.fold_array(
+                DictionaryArray {
+                    rows,
+                    keys: PhantomData::<u8>,
+                    signed,
+                },
+                words,
+            ),
+            Width::Two => self.fold_array(
+                DictionaryArray {
+                    rows,
+                    keys: PhantomData::<u16>,
+                    signed,
+                },
+                words,
+            ),
+            Width::Four => self.fold_array(
+                DictionaryArray {
+                    rows,
+                    keys: PhantomData::<u32>,
+                    signed,
+                },
+                words,
+            ),
+            Width::Eight => self.fold_array(
+                DictionaryArray {
+                    rows,
+                    keys: PhantomData::<u64>,
+                    signed,
+                },
+                words,
+            ),
+        }
+    }
+
     // The same by the kind that the column is of.
     fn fold(self, words: &mut [u64])
         requires nested { is_leaf self.met.node.t ≡ false }
@@ -162,21 +247,13 @@ impl Fold<'_, '_, '_> {
         let column = node.column;
         match node.t {
             DataType::Struct => self.fold_array(StructArray(column), words),
-            DataType::List(width) => self.fold_array(ListArray { column, width }, words),
+            DataType::List(width) => self.fold_list(width, words),
             DataType::ListView(width) => self.fold_array(ListViewArray { column, width }, words),
             DataType::Map => self.fold_array(MapArray(column), words),
             DataType::FixedSizeList(size) => {
                 self.fold_array(FixedSizeListArray { column, size }, words)
             }
-            DataType::Dictionary(width, signed) => {
-                let rows = References::of(&node);
-                let array = DictionaryArray {
-                    rows,
-                    width,
-                    signed,
-                };
-                self.fold_array(array, words)
-            }
+            DataType::Dictionary(width, signed) => self.fold_dictionary(width, signed, words),
             DataType::RunEnd(width) => {
                 let rows = References::of(&node);
                 let runs = node.runs(width);

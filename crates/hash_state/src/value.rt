@@ -291,6 +291,7 @@ impl PlainValue for Binary<'_> {
         COMBINES
     }
 
+    #[inline(always)]
     fn tell<H: Hasher>(&self, hasher: &mut H) {
         hasher.write_u64(self.0.len() as u64);
         hasher.write(self.0);
@@ -316,6 +317,7 @@ impl PlainValue for View<'_> {
         SEEDS
     }
 
+    #[inline(always)]
     fn tell<H: Hasher>(&self, hasher: &mut H) {
         match self {
             View::Inline(low, high) => hasher.write_pair(*low, *high),
