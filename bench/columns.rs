@@ -363,6 +363,17 @@ impl Column {
     }
 }
 
+impl Column {
+    /// How many columns a turn hashes, so that admission is a small part of its time: it takes longer than a column of
+    /// keys, and not always as long.
+    fn times(&self) -> u64 {
+        match self {
+            Column::Dictionary(..) => 256,
+            _ => 8,
+        }
+    }
+}
+
 /// The time that the processor spends on it: other programs that run meanwhile are not counted.
 fn timed(f: impl FnOnce()) -> f64 {
     let now = || {
@@ -374,9 +385,6 @@ fn timed(f: impl FnOnce()) -> f64 {
     f();
     now() - start
 }
-
-/// How many columns a turn hashes, so that admission is a small part of its time.
-const TIMES: u64 = 4;
 
 /// The best times of both sides, in nanoseconds a row, for turns that they take one after the other. Of ours, the best
 /// time of admission alone is taken off.
@@ -391,6 +399,7 @@ fn race<S: State>(state: &S, name: &str, column: &Column, first: bool) -> f64 {
     for (row, (a, b)) in entries.iter().zip(&other).enumerate() {
         assert_eq!(a, b, "{name}, row {row}: {a:016x} here, {b:016x} in Rust");
     }
+    let times = column.times();
     let turns: u64 = std::env::args().nth(1).map_or(7, |w| w.parse().unwrap());
     let (mut admission, mut all, mut theirs) = (f64::MAX, f64::MAX, f64::MAX);
     for _ in 0..turns {
@@ -398,15 +407,15 @@ fn race<S: State>(state: &S, name: &str, column: &Column, first: bool) -> f64 {
             black_box(state.ours(&image, first, 0, &mut entries, &mut work));
         }));
         all = all.min(timed(|| {
-            black_box(state.ours(&image, first, TIMES, &mut entries, &mut work));
+            black_box(state.ours(&image, first, times, &mut entries, &mut work));
         }));
         theirs = theirs.min(timed(|| {
-            for _ in 0..TIMES {
+            for _ in 0..times {
                 rust(state, column, first, black_box(&mut other), &mut work);
             }
         }));
     }
-    let a_row = 1e9 / (TIMES as f64 * rows as f64);
+    let a_row = 1e9 / (times as f64 * rows as f64);
     let (ours, theirs) = ((all - admission) * a_row, theirs * a_row);
     let when = if first { "first" } else { "later" };
     println!("| {}, {name}, {when} | {ours:.2} | {theirs:.2} | {:.2} |", S::NAME, ours / theirs);
