@@ -3,9 +3,10 @@
 #![allow(deprecated)]
 use std::hash::{Hasher, SipHasher};
 use std::hint::black_box;
-use std::time::Instant;
 
 unsafe extern "C" {
+    // The C library's: clock 3 is the processor time of a thread.
+    fn clock_gettime(clock: i32, now: &mut [i64; 2]) -> i32;
     fn rt_fnv_column(start: u64, bytes: *const u8, len: usize, node: u64, first: bool, times: u64, entries: *mut u64, rows: usize, work: *mut u64, words: usize) -> bool;
     fn rt_sip_column(k0: u64, k1: u64, bytes: *const u8, len: usize, node: u64, first: bool, times: u64, entries: *mut u64, rows: usize, work: *mut u64, words: usize) -> bool;
 }
@@ -362,13 +363,31 @@ impl Column {
     }
 }
 
-fn timed(f: impl FnOnce()) -> f64 {
-    let start = Instant::now();
-    f();
-    start.elapsed().as_secs_f64()
+impl Column {
+    /// How many columns a turn hashes, so that admission is a small part of its time: it takes longer than a column of
+    /// keys, and not always as long.
+    fn times(&self) -> u64 {
+        match self {
+            Column::Dictionary(..) => 256,
+            _ => 8,
+        }
+    }
 }
 
-/// The best times of both sides, in nanoseconds a row, for turns that they take one after the other.
+/// The time that the processor spends on it: other programs that run meanwhile are not counted.
+fn timed(f: impl FnOnce()) -> f64 {
+    let now = || {
+        let mut now = [0i64; 2];
+        assert_eq!(unsafe { clock_gettime(3, &mut now) }, 0);
+        now[0] as f64 + now[1] as f64 * 1e-9
+    };
+    let start = now();
+    f();
+    now() - start
+}
+
+/// The best times of both sides, in nanoseconds a row, for turns that they take one after the other. Of ours, the best
+/// time of admission alone is taken off.
 fn race<S: State>(state: &S, name: &str, column: &Column, first: bool) -> f64 {
     let image = column.image();
     let rows = column.rows();
@@ -380,22 +399,24 @@ fn race<S: State>(state: &S, name: &str, column: &Column, first: bool) -> f64 {
     for (row, (a, b)) in entries.iter().zip(&other).enumerate() {
         assert_eq!(a, b, "{name}, row {row}: {a:016x} here, {b:016x} in Rust");
     }
+    let times = column.times();
     let turns: u64 = std::env::args().nth(1).map_or(7, |w| w.parse().unwrap());
-    let (mut ours, mut theirs) = (f64::MAX, f64::MAX);
+    let (mut admission, mut all, mut theirs) = (f64::MAX, f64::MAX, f64::MAX);
     for _ in 0..turns {
-        let admission = timed(|| {
+        admission = admission.min(timed(|| {
             black_box(state.ours(&image, first, 0, &mut entries, &mut work));
-        });
-        let both = timed(|| {
-            black_box(state.ours(&image, first, 2, &mut entries, &mut work));
-        });
-        ours = ours.min((both - admission) / 2.0);
+        }));
+        all = all.min(timed(|| {
+            black_box(state.ours(&image, first, times, &mut entries, &mut work));
+        }));
         theirs = theirs.min(timed(|| {
-            rust(state, column, first, black_box(&mut other), &mut work);
-            rust(state, column, first, black_box(&mut other), &mut work);
-        }) / 2.0);
+            for _ in 0..times {
+                rust(state, column, first, black_box(&mut other), &mut work);
+            }
+        }));
     }
-    let (ours, theirs) = (ours * 1e9 / rows as f64, theirs * 1e9 / rows as f64);
+    let a_row = 1e9 / (times as f64 * rows as f64);
+    let (ours, theirs) = ((all - admission) * a_row, theirs * a_row);
     let when = if first { "first" } else { "later" };
     println!("| {}, {name}, {when} | {ours:.2} | {theirs:.2} | {:.2} |", S::NAME, ours / theirs);
     ours / theirs
@@ -405,7 +426,8 @@ fn main() {
     println!("| hashed | ours, ns a row | Rust, ns a row | ratio |");
     println!("|---|---|---|---|");
     let mut worst = 0f64;
-    for (name, column) in &columns() {
+    let only = std::env::args().nth(2).unwrap_or_default();
+    for (name, column) in columns().iter().filter(|(name, _)| name.contains(&only)) {
         for first in [true, false] {
             worst = worst.max(race(&FnvState(14695981039346656037), name, column, first));
             worst = worst.max(race(&SipState(0x0706050403020100, 0x0f0e0d0c0b0a0908), name, column, first));

@@ -17,6 +17,7 @@ use crate::runs::Runs;
 use hash_state::combine_hashes;
 use layout::bytes::{Width, element_at};
 use layout::column::Column;
+use leaves::{Wide, element_of};
 use std::cell::Cell;
 
 // The number that the fields came to, 0 without fields.
@@ -31,20 +32,19 @@ pub(crate) fn hash_struct_array(column: &Column<'_>, at: usize, region: Region<'
 }
 
 // The child rows between the element's offset and the next.
-pub(crate) fn hash_list_array(
+pub(crate) fn hash_list_array<O: Wide>(
     column: &Column<'_>,
-    width: Width,
     at: usize,
     region: Region<'_>,
     e: u64,
 ) -> u64
-    requires there { OffsetsThere width column.now.bytes.now column.now.record at 1 }
-    requires reached { Within region.from (length region.numbers.now) (offset width column.now.bytes.now column.now.record at) (span width column.now.bytes.now column.now.record at) }
+    requires there { OffsetsThere O.Native.width column.now.bytes.now column.now.record at 1 }
+    requires reached { Within region.from (length region.numbers.now) (offset O.Native.width column.now.bytes.now column.now.record at) (span O.Native.width column.now.bytes.now column.now.record at) }
     requires small { at < 2 ^ 32 }
-    ensures { result ≡ combined_all (standing region.entry.numbers.now region.entry.from) e (offset width column.now.bytes.now column.now.record at) (span width column.now.bytes.now column.now.record at) }
+    ensures { result ≡ combined_all (standing region.entry.numbers.now region.entry.from) e (offset O.Native.width column.now.bytes.now column.now.record at) (span O.Native.width column.now.bytes.now column.now.record at) }
 {
-    let start = column.number(width, at);
-    let end = column.number(width, at + 1);
+    let start = element_of::<O>(column, at);
+    let end = element_of::<O>(column, at + 1);
     region.combine(start, end - start, e)
 }
 
@@ -55,7 +55,7 @@ pub(crate) fn hash_map_array(column: &Column<'_>, at: usize, region: Region<'_>,
     requires small { at < 2 ^ 32 }
     ensures { result ≡ combined_all (standing region.entry.numbers.now region.entry.from) e (offset Four column.now.bytes.now column.now.record at) (span Four column.now.bytes.now column.now.record at) }
 {
-    hash_list_array(column, Width::Four, at, region, e)
+    hash_list_array::<u32>(column, at, region, e)
 }
 
 // As many child rows as the size says, from the offset on.
@@ -130,20 +130,19 @@ impl<'a> References<'a> {
 }
 
 // The child row that the key names.
-pub(crate) fn hash_dictionary(
+pub(crate) fn hash_dictionary<K: Wide>(
     rows: &References<'_>,
-    width: Width,
     at: usize,
     region: Region<'_>,
     first: bool,
     e: u64,
 ) -> u64
-    requires there { ElementThere width rows.now.column.bytes.now rows.now.column.record.a at }
-    requires key { (element width rows.now.column.bytes.now rows.now.column.record.a at < child_rows rows.now.column.bytes.now rows.now.column.record 0) × (child_rows rows.now.column.bytes.now rows.now.column.record 0 < 2 ^ 32) }
-    requires reached { Within region.from (length region.numbers.now) (element width rows.now.column.bytes.now rows.now.column.record.a at) 1 }
-    ensures { result ≡ referred rows.now.column.bytes.now rows.now.column.record (standing region.entry.numbers.now region.entry.from) first e (element width rows.now.column.bytes.now rows.now.column.record.a at) }
+    requires there { ElementThere K.Native.width rows.now.column.bytes.now rows.now.column.record.a at }
+    requires key { (element K.Native.width rows.now.column.bytes.now rows.now.column.record.a at < child_rows rows.now.column.bytes.now rows.now.column.record 0) × (child_rows rows.now.column.bytes.now rows.now.column.record 0 < 2 ^ 32) }
+    requires reached { Within region.from (length region.numbers.now) (element K.Native.width rows.now.column.bytes.now rows.now.column.record.a at) 1 }
+    ensures { result ≡ referred rows.now.column.bytes.now rows.now.column.record (standing region.entry.numbers.now region.entry.from) first e (element K.Native.width rows.now.column.bytes.now rows.now.column.record.a at) }
 {
-    let key = rows.column.number(width, at);
+    let key = element_of::<K>(&rows.column, at);
     rows.refer_to(key as u32, region, first, e)
 }
 

@@ -5,6 +5,7 @@ ghost use Rattle.columns.specs.Fold.{row_number};
 ghost use Rattle.columns.specs.Jobs.{reach_from, region as region_of, row_by, standing};
 ghost use Rattle.image.specs.Read.{typed_slot};
 ghost use Rattle.image.specs.Slot.{null};
+ghost use Rattle.layout.specs.declared.data_type.DataType.TheVariants.{Dictionary, List as ListOf};
 ghost use Rattle.leaves.specs.Rows.{by_place, is_leaf, row_of};
 ghost use Rattle.row_rule.specs.Number.{number_of};
 
@@ -17,9 +18,11 @@ use crate::node::Node;
 use crate::region::Region;
 use crate::span::Span;
 use hash_state::HashState;
+use layout::bytes::Width;
 use layout::data_type::DataType;
-use leaves::{Rows, hash_leaf};
+use leaves::{Rows, Wide, hash_leaf};
 use std::cell::Cell;
+use std::marker::PhantomData;
 
 // Rows of a node, each met by one of `n` words, hashed as first or not. `n` stands beside the list: without a list nothing
 // else tells how many rows are met.
@@ -102,23 +105,24 @@ pub(crate) struct Fold<'a, 'l, 'w> {
 
 impl Fold<'_, '_, '_> {
     // The number of a row of the span, from its word; a row that is marked null keeps it.
-    fn number<A: NestedArray>(self, array: &A, row: u32, e: u64) -> u64
+    // Rows are of the size of places here, so that a row's element is found by no cast.
+    fn number<A: NestedArray>(self, array: &A, row: usize, e: u64) -> u64
         requires covered { (self.span.from ≤ row) × (row < self.span.from + self.span.size) }
         requires column { A.NestedArray.column array.now ≡ self.met.node.column }
         requires kind { A.NestedArray.data_type array.now ≡ self.met.node.t }
         ensures { result ≡ row_number self.entry.met.node.t self.entry.met.node.column.bytes.now self.entry.met.node.column.record (standing self.entry.region.numbers.now self.entry.region.from) self.entry.met.first e row }
     {
-        if self.met.node.is_marked(row) {
+        if self.met.node.is_marked(row as u32) {
             return e;
         }
-        let at = self.met.node.column.element(row);
+        let at = self.met.node.column.record.start as usize + row;
         array.fold(at, self.region, self.met.first, e)
     }
 
     // Each word in place, at the row that it meets. A loop beside that of the leaves: one for both would take a closure
     // whose contract speaks of values that are told and of regions that are folded. Words are lent apart from what they
     // are folded by, so no field can say how many there are.
-    fn fold_each<A: NestedArray, F: Fn(usize) -> u32 + Drop>(
+    fn fold_each<A: NestedArray, F: Fn(usize) -> usize + Drop>(
         self,
         array: &A,
         row_at: F,
@@ -144,12 +148,70 @@ impl Fold<'_, '_, '_> {
         requires kind { A.NestedArray.data_type array ≡ self.met.node.t }
         ensures { words.new ≡ by_place (λ j e. row_number self.entry.met.node.t self.entry.met.node.column.bytes.now self.entry.met.node.column.record (standing self.entry.region.numbers.now self.entry.region.from) self.entry.met.first e (row_of self.entry.met.rows.lo self.entry.met.rows.list j)) 0 words.old }
     {
-        let lo = self.met.rows.lo;
+        let lo = self.met.rows.lo as usize;
         let Some(list) = self.met.rows.list else {
-            self.fold_each(&array, |j| lo + j as u32, words);
+            self.fold_each(&array, |j| lo + j, words);
             return;
         };
-        self.fold_each(&array, |j| list[j], words);
+        self.fold_each(&array, |j| list[j] as usize, words);
+    }
+
+    // The same of lists, by offsets of one type.
+    fn fold_offsets<O: Wide + Drop>(self, words: &mut [u64])
+        requires words { length words.old ≡ self.met.n }
+        requires kind { self.met.node.t ≡ ListOf O.Native.width }
+        ensures { words.new ≡ by_place (λ j e. row_number self.entry.met.node.t self.entry.met.node.column.bytes.now self.entry.met.node.column.record (standing self.entry.region.numbers.now self.entry.region.from) self.entry.met.first e (row_of self.entry.met.rows.lo self.entry.met.rows.list j)) 0 words.old }
+    {
+        let column = self.met.node.column;
+        let offsets = PhantomData::<O>;
+        self.fold_array(ListArray { column, offsets }, words);
+    }
+
+    fn fold_list(self, width: Width, words: &mut [u64])
+        requires words { length words.old ≡ self.met.n }
+        requires kind { self.met.node.t ≡ ListOf width }
+        ensures { words.new ≡ by_place (λ j e. row_number self.entry.met.node.t self.entry.met.node.column.bytes.now self.entry.met.node.column.record (standing self.entry.region.numbers.now self.entry.region.from) self.entry.met.first e (row_of self.entry.met.rows.lo self.entry.met.rows.list j)) 0 words.old }
+    {
+        match width {
+            Width::One => self.fold_offsets::<u8>(words),
+            Width::Two => self.fold_offsets::<u16>(words),
+            Width::Four => self.fold_offsets::<u32>(words),
+            Width::Eight => self.fold_offsets::<u64>(words),
+        }
+    }
+
+    // The same of a dictionary by keys of one type. Its numbers begin at the first value: the 0 says so to the compiler, so
+    // that no row takes it off.
+    fn fold_keys<K: Wide + Drop>(self, signed: bool, words: &mut [u64])
+        requires words { length words.old ≡ self.met.n }
+        requires kind { self.met.node.t ≡ Dictionary K.Native.width signed }
+        ensures { words.new ≡ by_place (λ j e. row_number self.entry.met.node.t self.entry.met.node.column.bytes.now self.entry.met.node.column.record (standing self.entry.region.numbers.now self.entry.region.from) self.entry.met.first e (row_of self.entry.met.rows.lo self.entry.met.rows.list j)) 0 words.old }
+    {
+        let rows = References::of(&self.met.node);
+        let region = Region {
+            numbers: self.region.numbers,
+            from: 0,
+        };
+        let fold = Fold {
+            met: self.met,
+            span: self.span,
+            region,
+        };
+        let keys = PhantomData::<K>;
+        fold.fold_array(DictionaryArray { rows, keys, signed }, words);
+    }
+
+    fn fold_dictionary(self, width: Width, signed: bool, words: &mut [u64])
+        requires words { length words.old ≡ self.met.n }
+        requires kind { self.met.node.t ≡ Dictionary width signed }
+        ensures { words.new ≡ by_place (λ j e. row_number self.entry.met.node.t self.entry.met.node.column.bytes.now self.entry.met.node.column.record (standing self.entry.region.numbers.now self.entry.region.from) self.entry.met.first e (row_of self.entry.met.rows.lo self.entry.met.rows.list j)) 0 words.old }
+    {
+        match width {
+            Width::One => self.fold_keys::<u8>(signed, words),
+            Width::Two => self.fold_keys::<u16>(signed, words),
+            Width::Four => self.fold_keys::<u32>(signed, words),
+            Width::Eight => self.fold_keys::<u64>(signed, words),
+        }
     }
 
     // The same by the kind that the column is of.
@@ -162,21 +224,13 @@ impl Fold<'_, '_, '_> {
         let column = node.column;
         match node.t {
             DataType::Struct => self.fold_array(StructArray(column), words),
-            DataType::List(width) => self.fold_array(ListArray { column, width }, words),
+            DataType::List(width) => self.fold_list(width, words),
             DataType::ListView(width) => self.fold_array(ListViewArray { column, width }, words),
             DataType::Map => self.fold_array(MapArray(column), words),
             DataType::FixedSizeList(size) => {
                 self.fold_array(FixedSizeListArray { column, size }, words)
             }
-            DataType::Dictionary(width, signed) => {
-                let rows = References::of(&node);
-                let array = DictionaryArray {
-                    rows,
-                    width,
-                    signed,
-                };
-                self.fold_array(array, words)
-            }
+            DataType::Dictionary(width, signed) => self.fold_dictionary(width, signed, words),
             DataType::RunEnd(width) => {
                 let rows = References::of(&node);
                 let runs = node.runs(width);

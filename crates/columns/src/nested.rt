@@ -15,9 +15,12 @@ use crate::region::Region;
 use crate::runs::Runs;
 use layout::bytes::Width;
 use layout::column::Column;
+use leaves::Wide;
 use std::cell::Cell;
+use std::marker::PhantomData;
 
-// A type for each kind, by the Rust's names: what `FoldThere` and `folded` say goes by the type.
+// A type for each kind, by the Rust's names: what `FoldThere` and `folded` say goes by the type. Offsets and keys are of a
+// type each, so that no row looks at their width.
 pub(crate) trait NestedArray {
     ghost column: { Self → Column };
 
@@ -44,18 +47,18 @@ impl NestedArray for StructArray<'_> {
 }
 
 #[derive(Drop)]
-pub(crate) struct ListArray<'a> {
+pub(crate) struct ListArray<'a, O> {
     pub column: Column<'a>,
-    pub width: Width,
+    pub offsets: PhantomData<O>,
 }
 
-impl NestedArray for ListArray<'_> {
+impl<O: Wide> NestedArray for ListArray<'_, O> {
     ghost column = { λ s. s.column };
 
-    ghost data_type = { λ s. ListOf s.width };
+    ghost data_type = { λ _. ListOf O.Native.width };
 
     fn fold(&self, at: usize, region: Region<'_>, first: bool, e: u64) -> u64 {
-        hash_list_array(&self.column, self.width, at, region, e)
+        hash_list_array::<O>(&self.column, at, region, e)
     }
 }
 
@@ -105,19 +108,19 @@ impl NestedArray for FixedSizeListArray<'_> {
 }
 
 #[derive(Drop)]
-pub(crate) struct DictionaryArray<'a> {
+pub(crate) struct DictionaryArray<'a, K> {
     pub rows: References<'a>,
-    pub width: Width,
+    pub keys: PhantomData<K>,
     pub signed: bool,
 }
 
-impl NestedArray for DictionaryArray<'_> {
+impl<K: Wide> NestedArray for DictionaryArray<'_, K> {
     ghost column = { λ s. s.rows.column };
 
-    ghost data_type = { λ s. Dictionary s.width s.signed };
+    ghost data_type = { λ s. Dictionary K.Native.width s.signed };
 
     fn fold(&self, at: usize, region: Region<'_>, first: bool, e: u64) -> u64 {
-        hash_dictionary(&self.rows, self.width, at, region, first, e)
+        hash_dictionary::<K>(&self.rows, at, region, first, e)
     }
 }
 

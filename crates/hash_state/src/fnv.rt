@@ -7,6 +7,7 @@ ghost use Rattle.hash_state.specs.Hashing.{fnv1a_below};
 
 use crate::hasher::{BuildHasher, HashState, Hasher};
 
+// Its writes stand where they are called, so that the hash stays in a register through a row.
 #[derive(Clone, Copy)]
 pub struct Fnv1aHasher {
     hash: u64,
@@ -20,6 +21,7 @@ fn step(hash: u64, byte: u8) -> u64
 }
 
 // The bytes, one after another.
+#[inline(always)]
 fn hashed(hash: u64, bytes: &[u8]) -> u64
     ensures { result ≡ fnv1a hash bytes.now }
 {
@@ -27,6 +29,7 @@ fn hashed(hash: u64, bytes: &[u8]) -> u64
 }
 
 // The same by blocks of eight.
+#[inline(always)]
 fn hashed_blocks(hash: u64, blocks: &[[u8; 8]]) -> u64
     ensures { result ≡ fold fnv1a hash blocks.now }
 {
@@ -37,29 +40,35 @@ impl Hasher for Fnv1aHasher {
     ghost meaning = { λ h ws. fnv1a h.hash (joined ws) };
 
     // A method for each width, as the Rust's trait has them: arrays of bytes differ in type by their length.
+    #[inline(always)]
     fn write_u8(&mut self, v: u8) {
         self.hash = hashed(self.hash, &[v]);
     }
 
+    #[inline(always)]
     fn write_u16(&mut self, v: u16) {
         self.hash = hashed(self.hash, &u16::to_le_bytes(v));
     }
 
+    #[inline(always)]
     fn write_u32(&mut self, v: u32) {
         self.hash = hashed(self.hash, &u32::to_le_bytes(v));
     }
 
+    #[inline(always)]
     #[tactic(auto, using(crate::specs::Hashing::eight_bytes))]
     fn write_u64(&mut self, v: u64) {
         self.hash = hashed(self.hash, &u64::to_le_bytes(v));
     }
 
+    #[inline(always)]
     fn write_pair(&mut self, low: u64, high: u64) {
         self.write_u64(low);
         self.write_u64(high);
     }
 
     // The bytes that are no whole block come first: of strings of any length most of the time is then spent in blocks.
+    #[inline(always)]
     fn write(&mut self, bytes: &[u8]) {
         let (odd, blocks) = bytes.as_rchunks::<8>();
         self.hash = hashed_blocks(hashed(self.hash, odd), blocks);

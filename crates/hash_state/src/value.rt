@@ -33,6 +33,7 @@ pub trait HashValue {
     fn hash_write<H: Hasher>(&self, hasher: &mut H)
         ensures { (ws : List Write) → H.Hasher.meaning hasher.new ws ≡ H.Hasher.meaning hasher.old (seed_writes self.now ++ ws) };
 
+    #[inline(always)]
     fn hash_one<S: BuildHasher>(&self, state: &S) -> u64
         ensures { result ≡ S.BuildHasher.one state.now (writes self.now) }
     {
@@ -43,6 +44,7 @@ pub trait HashValue {
 }
 
 // The hash of a value in a later column, where the entry stands for the columns before.
+#[inline(always)]
 pub fn hash_later<V: HashValue, S: HashState>(value: &V, state: &S, entry: u64) -> u64
     ensures { result ≡ later V.HashValue.seeding (S.HashState.seeded state.now entry (V.HashValue.seed_writes value.now)) (S.BuildHasher.one state.now (V.HashValue.writes value.now)) entry }
 {
@@ -90,10 +92,20 @@ impl<T: PlainValue> HashValue for T {
         T::later()
     }
 
+    // As the trait has it, but in its caller's place: a hasher that a call takes goes through memory.
+    #[inline(always)]
+    fn hash_one<S: BuildHasher>(&self, state: &S) -> u64 {
+        let mut hasher = state.build_hasher();
+        self.tell(&mut hasher);
+        hasher.finish()
+    }
+
+    #[inline(always)]
     fn hash<H: Hasher>(&self, hasher: &mut H) {
         self.tell(hasher);
     }
 
+    #[inline(always)]
     fn hash_write<H: Hasher>(&self, hasher: &mut H) {
         self.tell(hasher);
     }
@@ -291,6 +303,7 @@ impl PlainValue for Binary<'_> {
         COMBINES
     }
 
+    #[inline(always)]
     fn tell<H: Hasher>(&self, hasher: &mut H) {
         hasher.write_u64(self.0.len() as u64);
         hasher.write(self.0);
@@ -316,6 +329,7 @@ impl PlainValue for View<'_> {
         SEEDS
     }
 
+    #[inline(always)]
     fn tell<H: Hasher>(&self, hasher: &mut H) {
         match self {
             View::Inline(low, high) => hasher.write_pair(*low, *high),

@@ -10,4 +10,5 @@ mod rows;
 mod view;
 
 pub use leaf::hash_leaf;
+pub use number::{Wide, element_of};
 pub use rows::Rows;

@@ -11,11 +11,67 @@ use layout::bytes::Native;
 use layout::column::Column;
 use std::marker::PhantomData;
 
-// An impl for each width: the laws hold by computing, once the type is known. Numbers that stand in a column, as themselves or as the bits of a float: the number that is read is the one that is told.
-pub(crate) trait Number: Native + Integer {
+// Unsigned numbers of one width, as 64-bit numbers: what is read by the type asks no row for the width. An impl for each
+// width: the laws hold by computing, once the type is known.
+pub trait Wide: Native {
     fn width() -> usize
         ensures { result ≡ wide Self.Native.width };
 
+    fn number(self) -> u64
+        ensures { result ≡ Self.Native.value self };
+}
+
+impl Wide for u8 {
+    fn width() -> usize {
+        1
+    }
+
+    fn number(self) -> u64 {
+        u64::from(self)
+    }
+}
+
+impl Wide for u16 {
+    fn width() -> usize {
+        2
+    }
+
+    fn number(self) -> u64 {
+        u64::from(self)
+    }
+}
+
+impl Wide for u32 {
+    fn width() -> usize {
+        4
+    }
+
+    fn number(self) -> u64 {
+        u64::from(self)
+    }
+}
+
+impl Wide for u64 {
+    fn width() -> usize {
+        8
+    }
+
+    fn number(self) -> u64 {
+        self
+    }
+}
+
+// An element of the buffer at A: an offset, a key or a value.
+pub fn element_of<T: Wide>(column: &Column<'_>, at: usize) -> u64
+    requires { ElementThere T.Native.width column.now.bytes.now column.now.record.a at }
+    ensures { result ≡ element T.Native.width column.now.bytes.now column.now.record.a at }
+{
+    let place = column.record.a as usize + T::width() * at;
+    T::load(column.bytes, place).number()
+}
+
+// Numbers that stand in a column, as themselves or as the bits of a float: the number that is read is the one that is told.
+pub(crate) trait Number: Wide + Integer {
     ghost same_width: { Self.Integer.width ≡ wide Self.Native.width };
 
     ghost same_number: { (x : Self) → Self.Integer.bits x ≡ Self.Native.value x };
@@ -25,40 +81,24 @@ impl Number for u8 {
     ghost same_width = { refl };
 
     ghost same_number = { λ _. refl };
-
-    fn width() -> usize {
-        1
-    }
 }
 
 impl Number for u16 {
     ghost same_width = { refl };
 
     ghost same_number = { λ _. refl };
-
-    fn width() -> usize {
-        2
-    }
 }
 
 impl Number for u32 {
     ghost same_width = { refl };
 
     ghost same_number = { λ _. refl };
-
-    fn width() -> usize {
-        4
-    }
 }
 
 impl Number for u64 {
     ghost same_width = { refl };
 
     ghost same_number = { λ _. refl };
-
-    fn width() -> usize {
-        8
-    }
 }
 
 // The number at a row.

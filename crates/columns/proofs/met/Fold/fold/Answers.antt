@@ -1,10 +1,7 @@
 use Rattle.std.proofs.Common.{refl, arith}
-use Rattle.layout.specs.declared.data_type.DataType.TheVariants.{Dictionary, RunEnd}
+use Rattle.layout.specs.declared.data_type.DataType.TheVariants.{RunEnd}
 use Rattle.columns.proofs.Nodes.{refers_to_child}
 use Rattle.columns.proofs.met.Fold.fold.Goals as goal
 
 pub of-rows-requires : goal.of-rows-requires
-of-rows-requires c = refers_to_child c.args.self.met.node (Dictionary c.in-Dictionary.width c.in-Dictionary.signed) c.in-Dictionary.is refl (λ one. omega arith)
-
-pub of-rows-requires-in-RunEnd : goal.of-rows-requires-in-RunEnd
-of-rows-requires-in-RunEnd c = refers_to_child c.args.self.met.node (RunEnd c.in-RunEnd.width) c.in-RunEnd.is refl (λ one. omega arith)
+of-rows-requires c = refers_to_child c.args.self.met.node (RunEnd c.in-RunEnd.width) c.in-RunEnd.is refl (λ one. omega arith)

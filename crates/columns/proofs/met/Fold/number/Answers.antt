@@ -19,8 +19,7 @@ fold-requires g c =
     (node_fold n s.span.from s.span.size row s.within c.requires.covered.0 c.requires.covered.1 (sym c.if-is_marked.ensures))) in
     record {
       reached =
-          subst (λ (k : ℕ). FoldThere (g.A.NestedArray.data_type A) (g.A.NestedArray.column A).bytes.now (g.A.NestedArray.column A).record k s.region.from (length s.region.numbers.now)) (sym c.element-at.ensures)
           (subst (λ (t : DataType). FoldThere t (g.A.NestedArray.column A).bytes.now (g.A.NestedArray.column A).record (n.column.record.start + row) s.region.from (length s.region.numbers.now)) (sym c.requires.kind)
           (subst (λ (x : Column). FoldThere n.t x.bytes.now x.record (n.column.record.start + row) s.region.from (length s.region.numbers.now)) (sym c.requires.column) there));
-      small = omega (arith, c.element-at.ensures, s.within, c.requires.covered.1, few.0, few.1);
+      small = omega (arith, s.within, c.requires.covered.1, few.0, few.1);
     }
