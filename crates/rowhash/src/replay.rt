@@ -3,8 +3,10 @@ ghost use Rattle.admission.specs.FirstFault.{fault_of, first_fault};
 ghost use Rattle.layout.specs.Records.{nodes};
 ghost use Rattle.std.specs.Prelude.{◌≡◌, IfOk};
 
+use crate::answer::{Answer, Words};
 use crate::command::Command;
 use crate::files::read_image;
+use crate::run::Run;
 use crate::slots::SlotAnswer;
 use admission::fault::ImageFault;
 use image::place::Image;
@@ -20,13 +22,14 @@ struct Session<'a> {
 }
 
 // Begins with no bytes, which are no image, so that the empty one stands. An image borrows its
-// bytes, so each has a session of its own, until another is accepted.
+// bytes, so each has a session of its own, until another is accepted. The run goes on through all.
 pub(crate) fn replay(rt: &HostRuntime) -> io::Result<()> {
     let mut input = BufReader::new(rt.alloc(), rt.stdin())?;
     let mut bytes = Vec::new(rt.alloc());
+    let mut run = Run::new(rt.alloc())?;
     // a count, since nothing tells how many images are to come
     for _ in 0..u64::MAX {
-        match Session::new(rt, bytes.as_slice()).answer_lines(&mut input)? {
+        match Session::new(rt, bytes.as_slice()).answer_lines(&mut run, &mut input)? {
             Some(next) => bytes = next,
             None => break,
         }
@@ -57,9 +60,13 @@ impl<'a> Session<'a> {
     }
 
     // Answers lines until one brings another image, whose bytes it gives, or there are no more.
-    fn answer_lines(&self, input: &mut BufReader<Stdin>) -> io::Result<Option<Vec<u8>>> {
+    fn answer_lines(
+        &self,
+        run: &mut Run,
+        input: &mut BufReader<Stdin>,
+    ) -> io::Result<Option<Vec<u8>>> {
         for line in input.split(self.rt.alloc(), b'\n') {
-            let bytes = self.answer_line(line?.as_slice())?;
+            let bytes = self.answer_line(run, line?.as_slice())?;
             if bytes.is_some() {
                 return Ok(bytes);
             }
@@ -68,7 +75,7 @@ impl<'a> Session<'a> {
     }
 
     // Answers a line unless it is passed over, and gives the bytes of an image that it brings.
-    fn answer_line(&self, line: &[u8]) -> io::Result<Option<Vec<u8>>> {
+    fn answer_line(&self, run: &mut Run, line: &[u8]) -> io::Result<Option<Vec<u8>>> {
         if is_passed_over(line) {
             return Ok(None);
         }
@@ -79,12 +86,51 @@ impl<'a> Session<'a> {
         match Command::parse(self.rt.alloc(), text)? {
             Some(Command::Image(bytes)) => return self.answer_image(bytes),
             Some(Command::ImageFile(path)) => return self.answer_file(path),
-            Some(Command::Slot(node, row)) => {
-                self.rt.println(SlotAnswer(self.image.slot(node, row)))?;
-            }
+            Some(command) => self.answer_command(run, command)?,
             None => self.rt.println("not understood")?,
         }
         Ok(None)
+    }
+
+    // Answers a command that brings no image.
+    fn answer_command(&self, run: &mut Run, command: Command<'_>) -> io::Result<()> {
+        let answer = match command {
+            Command::Image(_) | Command::ImageFile(_) => return Ok(()),
+            Command::Slot(node, row) => {
+                return self.rt.println(SlotAnswer(self.image.slot(node, row)));
+            }
+            Command::State(state) => {
+                run.set_state(state);
+                Answer::Set
+            }
+            Command::Work(words) => {
+                run.lending.set_work(self.rt.alloc(), words)?;
+                Answer::Set
+            }
+            Command::Claimed(words) => {
+                run.lending.set_claimed(words);
+                Answer::Set
+            }
+            Command::Begin(entries) => run.begin(entries),
+            Command::Room(words) => run.room(words)?,
+            Command::Column(node, None) => run.column(&self.image, node, None),
+            Command::Column(node, Some(list)) => run.column(
+                &self.image,
+                node,
+                Some(list.as_slice()),
+            ),
+            Command::Keep(list) => run.keep(list.as_slice()),
+            Command::Read(row) => run.read(row),
+            Command::Words => return self.answer_words(run),
+        };
+        self.rt.println(answer)
+    }
+
+    fn answer_words(&self, run: &Run) -> io::Result<()> {
+        match run.words() {
+            Some(words) => self.rt.println(Words(words)),
+            None => self.rt.println(Answer::NoRun),
+        }
     }
 
     fn answer_file(&self, path: &str) -> io::Result<Option<Vec<u8>>> {
