@@ -41,15 +41,6 @@ impl Lending {
         Ok(())
     }
 
-    pub(crate) fn set_work(&mut self, heap: Global, words: usize) -> Result<(), AllocError> {
-        self.work = vec![in heap; 0; words]?;
-        Ok(())
-    }
-
-    pub(crate) fn set_claimed(&mut self, words: u64) {
-        self.account.claimed = words as usize;
-    }
-
     // How many entries are lent.
     pub(crate) fn lent(&self) -> usize
         ensures { result ≤ length self.now.entries.items }

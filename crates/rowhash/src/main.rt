@@ -8,8 +8,10 @@ mod failure;
 mod files;
 mod hash;
 mod lending;
+mod numbers;
 mod replay;
 mod run;
+mod run_command;
 mod show;
 mod slots;
 mod stage;
@@ -40,8 +42,8 @@ Commands of replay (numbers are decimal, or hexadecimal after 0x):
   state fnv1a [START]       hash under FNV-1a from now on; ends the run
   state siphash K0 K1       the same under SipHash-2-4
   begin [W ..]              a new run with a row for each entry
-  column NODE               each row of the run meets the row of the node with its number
-  column NODE list [R ..]   the same with the rows that a list names, in its order
+  column NODE               accept a column: row j of the run meets row j of the node
+  column NODE list [R ..]   the same, but row j meets the row that the list names for it
   keep [R ..]               keep the rows that a list names, in its order
   read R                    the number of a row, and how many columns are accepted
   words                     the entries that are lent to the calls of the run

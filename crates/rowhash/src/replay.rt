@@ -7,6 +7,7 @@ use crate::answer::{Answer, Words};
 use crate::command::Command;
 use crate::files::read_image;
 use crate::run::Run;
+use crate::run_command::RunCommand;
 use crate::slots::SlotAnswer;
 use admission::fault::ImageFault;
 use image::place::Image;
@@ -86,42 +87,26 @@ impl<'a> Session<'a> {
         match Command::parse(self.rt.alloc(), text)? {
             Some(Command::Image(bytes)) => return self.answer_image(bytes),
             Some(Command::ImageFile(path)) => return self.answer_file(path),
-            Some(command) => self.answer_command(run, command)?,
+            Some(Command::Slot(node, row)) => {
+                self.rt.println(SlotAnswer(self.image.slot(node, row)))?;
+            }
+            Some(Command::Run(command)) => self.answer_run(run, command)?,
             None => self.rt.println("not understood")?,
         }
         Ok(None)
     }
 
-    // Answers a command that brings no image.
-    fn answer_command(&self, run: &mut Run, command: Command<'_>) -> io::Result<()> {
+    fn answer_run(&self, run: &mut Run, command: RunCommand) -> io::Result<()> {
         let answer = match command {
-            Command::Image(_) | Command::ImageFile(_) => return Ok(()),
-            Command::Slot(node, row) => {
-                return self.rt.println(SlotAnswer(self.image.slot(node, row)));
-            }
-            Command::State(state) => {
-                run.set_state(state);
-                Answer::Set
-            }
-            Command::Work(words) => {
-                run.lending.set_work(self.rt.alloc(), words)?;
-                Answer::Set
-            }
-            Command::Claimed(words) => {
-                run.lending.set_claimed(words);
-                Answer::Set
-            }
-            Command::Begin(entries) => run.begin(entries),
-            Command::Room(words) => run.room(words)?,
-            Command::Column(node, None) => run.column(&self.image, node, None),
-            Command::Column(node, Some(list)) => run.column(
-                &self.image,
-                node,
-                Some(list.as_slice()),
-            ),
-            Command::Keep(list) => run.keep(list.as_slice()),
-            Command::Read(row) => run.read(row),
-            Command::Words => return self.answer_words(run),
+            RunCommand::State(state) => run.set_state(state),
+            RunCommand::Work(words) => run.set_work(self.rt.alloc(), words)?,
+            RunCommand::Claimed(words) => run.set_claimed(words),
+            RunCommand::Begin(entries) => run.begin(entries),
+            RunCommand::Room(words) => run.set_room(words)?,
+            RunCommand::Column(node, list) => run.column(&self.image, node, list.as_deref()),
+            RunCommand::Keep(list) => run.keep(list.as_slice()),
+            RunCommand::Read(row) => run.read(row),
+            RunCommand::Words => return self.answer_words(run),
         };
         self.rt.println(answer)
     }

@@ -14,7 +14,7 @@ use std::mem::replace;
 pub struct Run {
     state: ChosenState,
     stage: Stage,
-    pub(crate) lending: Lending,
+    lending: Lending,
 }
 
 impl Run {
@@ -27,9 +27,20 @@ impl Run {
     }
 
     // Ends the run: all columns of a run are under one state.
-    pub(crate) fn set_state(&mut self, state: ChosenState) {
+    pub(crate) fn set_state(&mut self, state: ChosenState) -> Answer {
         self.state = state;
         self.stage = Stage::Absent;
+        Answer::Set
+    }
+
+    pub(crate) fn set_work(&mut self, heap: Global, words: usize) -> Result<Answer, AllocError> {
+        self.lending.work = vec![in heap; 0; words]?;
+        Ok(Answer::Set)
+    }
+
+    pub(crate) fn set_claimed(&mut self, words: u64) -> Answer {
+        self.lending.account.claimed = words as usize;
+        Answer::Set
     }
 
     // A refusal leaves the run that was there, with its entries.
@@ -44,7 +55,7 @@ impl Run {
         }
     }
 
-    pub(crate) fn room(&mut self, words: usize) -> Result<Answer, AllocError> {
+    pub(crate) fn set_room(&mut self, words: usize) -> Result<Answer, AllocError> {
         if let Stage::Absent = self.stage {
             return Ok(Answer::NoRun);
         }
