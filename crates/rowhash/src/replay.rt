@@ -3,8 +3,11 @@ ghost use Rattle.admission.specs.FirstFault.{fault_of, first_fault};
 ghost use Rattle.layout.specs.Records.{nodes};
 ghost use Rattle.std.specs.Prelude.{◌≡◌, IfOk};
 
+use crate::answer::{Answer, Words};
 use crate::command::Command;
 use crate::files::read_image;
+use crate::run::Run;
+use crate::run_command::RunCommand;
 use crate::slots::SlotAnswer;
 use admission::fault::ImageFault;
 use image::place::Image;
@@ -20,13 +23,14 @@ struct Session<'a> {
 }
 
 // Begins with no bytes, which are no image, so that the empty one stands. An image borrows its
-// bytes, so each has a session of its own, until another is accepted.
+// bytes, so each has a session of its own, until another is accepted. The run goes on through all.
 pub(crate) fn replay(rt: &HostRuntime) -> io::Result<()> {
     let mut input = BufReader::new(rt.alloc(), rt.stdin())?;
     let mut bytes = Vec::new(rt.alloc());
+    let mut run = Run::new(rt.alloc())?;
     // a count, since nothing tells how many images are to come
     for _ in 0..u64::MAX {
-        match Session::new(rt, bytes.as_slice()).answer_lines(&mut input)? {
+        match Session::new(rt, bytes.as_slice()).answer_lines(&mut run, &mut input)? {
             Some(next) => bytes = next,
             None => break,
         }
@@ -57,9 +61,13 @@ impl<'a> Session<'a> {
     }
 
     // Answers lines until one brings another image, whose bytes it gives, or there are no more.
-    fn answer_lines(&self, input: &mut BufReader<Stdin>) -> io::Result<Option<Vec<u8>>> {
+    fn answer_lines(
+        &self,
+        run: &mut Run,
+        input: &mut BufReader<Stdin>,
+    ) -> io::Result<Option<Vec<u8>>> {
         for line in input.split(self.rt.alloc(), b'\n') {
-            let bytes = self.answer_line(line?.as_slice())?;
+            let bytes = self.answer_line(run, line?.as_slice())?;
             if bytes.is_some() {
                 return Ok(bytes);
             }
@@ -68,7 +76,7 @@ impl<'a> Session<'a> {
     }
 
     // Answers a line unless it is passed over, and gives the bytes of an image that it brings.
-    fn answer_line(&self, line: &[u8]) -> io::Result<Option<Vec<u8>>> {
+    fn answer_line(&self, run: &mut Run, line: &[u8]) -> io::Result<Option<Vec<u8>>> {
         if is_passed_over(line) {
             return Ok(None);
         }
@@ -82,9 +90,32 @@ impl<'a> Session<'a> {
             Some(Command::Slot(node, row)) => {
                 self.rt.println(SlotAnswer(self.image.slot(node, row)))?;
             }
+            Some(Command::Run(command)) => self.answer_run(run, command)?,
             None => self.rt.println("not understood")?,
         }
         Ok(None)
+    }
+
+    fn answer_run(&self, run: &mut Run, command: RunCommand) -> io::Result<()> {
+        let answer = match command {
+            RunCommand::State(state) => run.set_state(state),
+            RunCommand::Work(words) => run.set_work(self.rt.alloc(), words)?,
+            RunCommand::Claimed(words) => run.set_claimed(words),
+            RunCommand::Begin(entries) => run.begin(entries),
+            RunCommand::Room(words) => run.set_room(words)?,
+            RunCommand::Column(node, list) => run.column(&self.image, node, list.as_deref()),
+            RunCommand::Keep(list) => run.keep(list.as_slice()),
+            RunCommand::Read(row) => run.read(row),
+            RunCommand::Words => return self.answer_words(run),
+        };
+        self.rt.println(answer)
+    }
+
+    fn answer_words(&self, run: &Run) -> io::Result<()> {
+        match run.words() {
+            Some(words) => self.rt.println(Words(words)),
+            None => self.rt.println(Answer::NoRun),
+        }
     }
 
     fn answer_file(&self, path: &str) -> io::Result<Option<Vec<u8>>> {
