@@ -1,5 +1,8 @@
 // What the program is asked to do.
 use crate::failure::Failure;
+use crate::state::ChosenState;
+use hash_state::Fnv1aState;
+use std::alloc::{AllocError, Global};
 use std::env::Args;
 use text::number;
 
@@ -7,28 +10,22 @@ use text::number;
 pub enum Invocation {
     Help,
     Version,
-    Hash(String, Option<u64>),
+    Hash(String, Vec<u64>, ChosenState),
     Show(String, Option<u64>),
     Replay,
 }
 
 impl Invocation {
     // The program's own name comes first. No `TryFrom`: arguments are read one after the other, and used up.
-    pub(crate) fn parse(mut args: Args) -> Result<Invocation, Failure> {
+    pub(crate) fn parse(heap: Global, mut args: Args) -> Result<Invocation, Failure> {
         let _ = args.next();
         let command = args.next().ok_or(Failure::NoCommand)?;
         let invocation = match command.as_str() {
             "help" | "--help" | "-h" => Invocation::Help,
             "--version" => Invocation::Version,
             "replay" => Invocation::Replay,
-            "hash" => {
-                let (path, node) = parse_column(&mut args)?;
-                Invocation::Hash(path, node)
-            }
-            "show" => {
-                let (path, node) = parse_column(&mut args)?;
-                Invocation::Show(path, node)
-            }
+            "hash" => parse_hash(heap, &mut args)?,
+            "show" => parse_show(&mut args)?,
             _ => return Err(Failure::UnknownCommand(command)),
         };
         if let Some(word) = args.next() {
@@ -38,11 +35,41 @@ impl Invocation {
     }
 }
 
-// An image's file, and a node of it where one is named.
-fn parse_column(args: &mut Args) -> Result<(String, Option<u64>), Failure> {
+// An image's file and nodes of it, node 0 if none is named; the state may be chosen before them or behind.
+fn parse_hash(heap: Global, args: &mut Args) -> Result<Invocation, Failure> {
+    let mut path = None;
+    let mut nodes = Vec::new(heap);
+    let mut state = ChosenState::Fnv1a(Fnv1aState::new());
+    let mut chooses = false;
+    for word in args {
+        if chooses {
+            state = parse_state(word)?;
+            chooses = false;
+        } else if word.as_str() == "--state" {
+            chooses = true;
+        } else if path.is_none() {
+            path = Some(word);
+        } else {
+            nodes.push(parse_node(word)?).map_err(AllocError::from)?;
+        }
+    }
+    if chooses {
+        return Err(Failure::NoState);
+    }
+    if nodes.is_empty() {
+        nodes.push(0).map_err(AllocError::from)?;
+    }
+    Ok(Invocation::Hash(path.ok_or(Failure::NoFile)?, nodes, state))
+}
+
+fn parse_state(word: String) -> Result<ChosenState, Failure> {
+    ChosenState::parse_argument(word.as_str()).ok_or(Failure::UnknownState(word))
+}
+
+fn parse_show(args: &mut Args) -> Result<Invocation, Failure> {
     let path = args.next().ok_or(Failure::NoFile)?;
     let node = args.next().map(parse_node).transpose()?;
-    Ok((path, node))
+    Ok(Invocation::Show(path, node))
 }
 
 fn parse_node(word: String) -> Result<u64, Failure> {

@@ -1,5 +1,6 @@
 // Why the program ends with status 1.
 use admission::fault::ImageFault;
+use runs::fault::RunFault;
 use std::alloc::AllocError;
 use std::{fmt, io};
 use thiserror::Error;
@@ -23,6 +24,12 @@ pub enum Failure {
     Refused(String, Refusal),
     #[error("{0}: no node {1}: the image has {2}, counted from 0")]
     NoNode(String, u64, u32),
+    #[error("{0}: node {1}: {2}")]
+    Column(String, u64, ColumnRefusal),
+    #[error("--state: no hash state is given")]
+    NoState,
+    #[error("{0}: no such hash state (fnv1a, fnv1a:START or siphash:K0:K1)")]
+    UnknownState(String),
     #[error("out of memory")]
     Memory(#[from] AllocError),
     #[error("the arguments cannot be read: {0}")]
@@ -61,6 +68,31 @@ impl Refusal {
             ImageFault::Reach(_) => "a row reaches a child row or a byte that is not there",
             ImageFault::View(_) =>
                 "a view's padding is not zero, or its prefix is not how its bytes begin",
+        }
+    }
+}
+
+// A column that is refused, in words.
+#[derive(Clone, Copy, Debug)]
+pub struct ColumnRefusal(pub RunFault);
+
+impl fmt::Display for ColumnRefusal {
+    fn fmt<W: fmt::Write>(&self, f: &mut fmt::Formatter<W>) -> fmt::Result {
+        write!(f, "refused {}: {}", self.0.number(), self.reason())
+    }
+}
+
+impl ColumnRefusal {
+    // Of a run that is lent enough of both only 12, 13 and 14 can be.
+    fn reason(self) -> &'static str {
+        match self.0 {
+            RunFault::Entries => "there are fewer entries than rows",
+            RunFault::Columns => "255 columns are hashed already",
+            RunFault::Node => "the image has no such node",
+            RunFault::Length => "it has not as many rows as the first column",
+            RunFault::Listed => "a list names a row that is not there",
+            RunFault::Work => "there is too little work",
+            RunFault::Row => "there is no such row",
         }
     }
 }

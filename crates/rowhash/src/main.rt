@@ -61,10 +61,10 @@ Example:
 
 fn perform(rt: &HostRuntime) -> Result<(), Failure> {
     let args = env::args(rt).map_err(Failure::Arguments)?;
-    match Invocation::parse(args)? {
+    match Invocation::parse(rt.alloc(), args)? {
         Invocation::Help => rt.println(HELP)?,
         Invocation::Version => rt.println("rowhash 0.1.0")?,
-        Invocation::Hash(path, node) => hash::hash(rt, path.as_str(), node.unwrap_or(0))?,
+        Invocation::Hash(path, nodes, state) => hash::hash(rt, path.as_str(), nodes.as_slice(), state)?,
         Invocation::Show(path, node) => show::show(rt, path.as_str(), node)?,
         Invocation::Replay => replay::replay(rt)?,
     }

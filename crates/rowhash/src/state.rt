@@ -19,6 +19,25 @@ impl ChosenState {
             _ => None,
         }
     }
+
+    // The same as one argument, with colons between its parts.
+    pub(crate) fn parse_argument(argument: &str) -> Option<ChosenState> {
+        let Some((name, key)) = argument.split_once(':') else {
+            return (argument == "fnv1a").then_some(ChosenState::Fnv1a(Fnv1aState::new()));
+        };
+        match name {
+            "fnv1a" => {
+                let start = number(key.as_bytes())?;
+                Some(ChosenState::Fnv1a(Fnv1aState::from_start(start)))
+            }
+            "siphash" => {
+                let (k0, k1) = key.split_once(':')?;
+                let state = SipHashState::new(number(k0.as_bytes())?, number(k1.as_bytes())?);
+                Some(ChosenState::SipHash(state))
+            }
+            _ => None,
+        }
+    }
 }
 
 // FNV-1a, of another start where one is given.
