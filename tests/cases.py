@@ -865,7 +865,7 @@ for command in ["keep 2 1 0", "keep 1 2 0", "keep 0 0 2", "keep 2 1 1", "keep 0 
 accepted("column 2")
 read_all()
 
-title("fewer rows: the words past them stay, and come back when the run is lengthened only as words")
+title("fewer rows: the words past them stay, but are no rows any more")
 accepted("begin 10 20 30", "column 1", "column 5", "keep 2 0")
 run("words")
 read_all()

@@ -9,7 +9,7 @@ written from their publications.
 
     tests/model.py      tries the published hashes and the numbers of the docs
 
-tests/columns.py works out its numbers by `number`.
+tests/columns.py and tests/runs.py work out their numbers by `number`.
 """
 
 from dataclasses import dataclass

@@ -14,7 +14,7 @@ pub enum Answer {
 }
 
 impl Answer {
-    // No `From`: only of a call that gives nothing back.
+    // Of a call that has nothing more to say where it is accepted.
     pub(crate) fn of(outcome: Result<(), RunFault>) -> Answer {
         match outcome {
             Ok(()) => Answer::Accepted,

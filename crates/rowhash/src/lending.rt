@@ -9,7 +9,7 @@ const WORK: usize = 1_048_576;
 
 // Of the entries as many are lent as there is room for, and all of the work.
 #[derive(Drop)]
-pub(crate) struct Lending {
+pub struct Lending {
     pub(crate) entries: Vec<u64>,
     room: usize,
     pub(crate) work: Vec<u64>,

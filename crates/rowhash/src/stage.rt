@@ -5,9 +5,9 @@ use hash_state::HashState;
 use image::place::Image;
 use runs::run::{BegunRun, NewRun};
 
-// A run's two states are two types: which of them it has is known only as commands are read.
+// A new run and a begun one are two types: which of them it is, is known only as commands are read.
 #[derive(Drop)]
-pub(crate) enum Stage {
+pub enum Stage {
     Absent,
     New(NewRun),
     Begun(BegunRun),
