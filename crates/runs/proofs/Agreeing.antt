@@ -19,6 +19,11 @@ first_when_none : {X : Type 0} → (xs : List X) (n : ℕ) → length xs ≡ n �
 first_when_none [] n e = eq-eqb n 0 (sym e)
 first_when_none (x ∷ xs) n e = ne_eqb n 0 (λ z. omega (arith, e, z))
 
+-- an answer counts only where a request is not refused
+pub unless_same : (o : Option ℕ) (x y : Reply) → (o ≡ None → x ≡ y) → unless o refused x ≡ unless o refused y
+unless_same (Some n) x y h = refl
+unless_same None x y h = h refl
+
 module _ (ONE : List Write → ℕ) (SEED : ℕ → List Write → ℕ) where
   holds_at : (n : ℕ) (rows : List Row) (words : List ℕ) (k : ℕ) → Holds ONE SEED n rows words → k < length rows
       → (slice_index words k ≡ number ONE SEED (row_at rows k)) × (length (row_at rows k).met ≡ n)
@@ -91,10 +96,6 @@ module _ (ONE : List Write → ℕ) (SEED : ℕ → List Write → ℕ) where
   agrees_next l s q a =
       subst (λ (o : Option ℕ). Agrees ONE SEED (unless o (λ _. l) (added l q)) (step ONE SEED s q)) (same_refusal l s q a)
       (agrees_unless (refusal s.rows s.count q) l (added l q) s (taken ONE SEED s q) a (agrees_taken l s q a))
-
-  unless_same : (o : Option ℕ) (x y : Reply) → (o ≡ None → x ≡ y) → unless o refused x ≡ unless o refused y
-  unless_same (Some n) x y h = refl
-  unless_same None x y h = h refl
 
   told_answer : (l : Ledger) (s : State) (q : Request) → Agrees ONE SEED l s → told s q ≡ answer ONE SEED l q
   told_answer l s (column c list lent) a = ap (λ (o : Option ℕ). unless o refused accepted) (same_refusal l s (column c list lent) a)

@@ -13,6 +13,7 @@ use Rattle.runs.specs.Requests.{Request, Reply, column, keep, read, refused, row
 use Rattle.runs.specs.Refusals.{refusal, unless}
 use Rattle.runs.specs.State.{State, kept, step, taken, told}
 use Rattle.runs.specs.Calls.{lent_of, stage_run}
+use Rattle.runs.proofs.Agreeing.{unless_same}
 use Rattle.runs.proofs.Going.{column_goes, keep_goes, read_goes}
 
 -- how many words of the entries a request is lent
@@ -27,10 +28,6 @@ widened s rest = record { count = s.count; rows = s.rows; words = s.words ++ res
 unless_widened : (o : Option ℕ) (s t t' : State) (rest : List ℕ) → (o ≡ None → widened t rest ≡ t') → widened (unless o (λ _. s) t) rest ≡ unless o (λ _. widened s rest) t'
 unless_widened (Some n) s t t' rest h = refl
 unless_widened None s t t' rest h = h refl
-
-unless_same : (o : Option ℕ) (x y : Reply) → (o ≡ None → x ≡ y) → unless o refused x ≡ unless o refused y
-unless_same (Some n) x y h = refl
-unless_same None x y h = h refl
 
 gathered_part : (n : ℕ) (list words rest : List ℕ) → all_below n list ≡ true → n ≤ length words → map (slice_index words) list ≡ map (slice_index (words ++ rest)) list
 gathered_part n [] words rest e h = refl

@@ -8,10 +8,9 @@ use Rattle.leaves.specs.Rows.{by_place, row_of}
 use Rattle.columns.specs.Column.{RowsThere, column_words, met_rows}
 use Rattle.runs.specs.Columns.{Column, list_below, meeting, met_at}
 use Rattle.runs.specs.Runs.{column_of, list_of}
-use Rattle.runs.specs.declared.call.Lent.{Lent}
-use Rattle.runs.specs.Refusals.{column_refusal, keep_refusal, unless}
-use Rattle.runs.specs.Requests.{column, keep}
-use Rattle.runs.specs.State.{State, kept, led_words, step, taken}
+use Rattle.runs.specs.Refusals.{refusal, unless}
+use Rattle.runs.specs.Requests.{Request}
+use Rattle.runs.specs.State.{State, led_words, step, taken}
 use Rattle.runs.proofs.Lists.{below_at}
 
 pub row_met : (list : Option (Bor (List ℕ))) (j : ℕ) → row_of 0 list j ≡ met_at (list_of list) j
@@ -38,36 +37,20 @@ module _ (ONE : List Write → ℕ) (SEED : ℕ → List Write → ℕ) where
       ∙ ap (λ (xs : List ℕ). xs ++ drop rows words)
       (by_place_equal _ _ (λ j x. ap (λ (k : ℕ). number_of ONE SEED first x (slot_at bytes node k)) (row_met list j)) (take rows words) 0)
 
-  -- a column that is refused leaves the state, and another leads it on
-  module _ (s : State) (c : Column) (list : Option (List ℕ)) (lent : Lent) (words : List ℕ)
-      (led : words ≡ unless (column_refusal s.rows s.count c list lent) (λ _. s.words) (led_words ONE SEED (s.count == 0) s.rows c list s.words)) where
-    outcome : {X : Type 0} → (o : Option ℕ) → o ≡ column_refusal s.rows s.count c list lent → (x y : X)
-        → unless o (λ _. x) y ≡ unless (column_refusal s.rows s.count c list lent) (λ _. x) y
-    outcome o e x y = ap (λ (p : Option ℕ). unless p (λ _. x) y) e
-
-    pub state_refused : (n : ℕ) → Some n ≡ column_refusal s.rows s.count c list lent → record { count = s.count; rows = s.rows; words = words } ≡ step ONE SEED s (column c list lent)
-    state_refused n e =
-        ap (λ (xs : List ℕ). record { count = s.count; rows = s.rows; words = xs }) (led ∙ sym (outcome (Some n) e s.words _))
-        ∙ outcome (Some n) e s (taken ONE SEED s (column c list lent))
-
-    pub state_led : None ≡ column_refusal s.rows s.count c list lent → record { count = s.count + 1; rows = s.rows; words = words } ≡ step ONE SEED s (column c list lent)
-    state_led e =
-        ap (λ (xs : List ℕ). record { count = s.count + 1; rows = s.rows; words = xs }) (led ∙ sym (outcome None e s.words _))
-        ∙ outcome None e s (taken ONE SEED s (column c list lent))
-
--- a keep that is refused leaves the state, and another has the rows of its list
-module _ (ONE : List Write → ℕ) (SEED : ℕ → List Write → ℕ) (s : State) (list : List ℕ) (lent : Lent) (words : List ℕ)
-    (led : words ≡ unless (keep_refusal s.rows list lent) (λ _. s.words) (kept list s.words)) where
-  decided : {X : Type 0} → (o : Option ℕ) → o ≡ keep_refusal s.rows list lent → (x y : X)
-      → unless o (λ _. x) y ≡ unless (keep_refusal s.rows list lent) (λ _. x) y
+-- a request that is refused leaves the state, and another takes it on, where the words become new ones unless it is refused
+module _ (ONE : List Write → ℕ) (SEED : ℕ → List Write → ℕ) (s : State) (q : Request) (words new : List ℕ)
+    (become : words ≡ unless (refusal s.rows s.count q) (λ _. s.words) new) where
+  decided : {X : Type 0} → (o : Option ℕ) → o ≡ refusal s.rows s.count q → (x y : X) → unless o (λ _. x) y ≡ unless (refusal s.rows s.count q) (λ _. x) y
   decided o e x y = ap (λ (p : Option ℕ). unless p (λ _. x) y) e
 
-  pub keep_refused : (n : ℕ) → Some n ≡ keep_refusal s.rows list lent → record { count = s.count; rows = s.rows; words = words } ≡ step ONE SEED s (keep list lent)
-  keep_refused n e =
-      ap (λ (xs : List ℕ). record { count = s.count; rows = s.rows; words = xs }) (led ∙ sym (decided (Some n) e s.words _))
-      ∙ decided (Some n) e s (taken ONE SEED s (keep list lent))
+  pub step_refused : (n : ℕ) → Some n ≡ refusal s.rows s.count q → record { count = s.count; rows = s.rows; words = words } ≡ step ONE SEED s q
+  step_refused n e =
+      ap (λ (xs : List ℕ). record { count = s.count; rows = s.rows; words = xs }) (become ∙ sym (decided (Some n) e s.words new))
+      ∙ decided (Some n) e s (taken ONE SEED s q)
 
-  pub keep_led : (rows : ℕ) → rows ≡ length list → None ≡ keep_refusal s.rows list lent → record { count = s.count; rows = rows; words = words } ≡ step ONE SEED s (keep list lent)
-  keep_led rows n e =
-      ap₂ (λ (k : ℕ) (xs : List ℕ). record { count = s.count; rows = k; words = xs }) n (led ∙ sym (decided None e s.words _))
-      ∙ decided None e s (taken ONE SEED s (keep list lent))
+  pub step_made : (count rows : ℕ) → record { count = count; rows = rows; words = new } ≡ taken ONE SEED s q → None ≡ refusal s.rows s.count q
+      → record { count = count; rows = rows; words = words } ≡ step ONE SEED s q
+  step_made count rows t e =
+      ap (λ (xs : List ℕ). record { count = count; rows = rows; words = xs }) (become ∙ sym (decided None e s.words new))
+      ∙ t
+      ∙ decided None e s (taken ONE SEED s q)

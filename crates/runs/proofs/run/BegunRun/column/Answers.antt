@@ -1,7 +1,7 @@
-use Rattle.std.proofs.Common.{sym, arith}
+use Rattle.std.proofs.Common.{refl, sym, arith}
 use Rattle.std.proofs.lemmas.Bool.{eqb-false}
 use Rattle.runs.specs.Runs.{begun_run, column_of, lent, list_of}
-use Rattle.runs.proofs.Steps.{state_led, state_refused}
+use Rattle.runs.proofs.Steps.{step_made, step_refused}
 use Rattle.runs.proofs.Going.{column_goes}
 use Rattle.runs.proofs.run.BegunRun.column.Goals as goal
 use Rattle.std.proofs.Common.{ℕ, ap, Option}
@@ -14,7 +14,9 @@ use Rattle.runs.proofs.Agreeing.{follows}
 
 pub returns-in_err-lead_rows-clause-state : goal.returns-in_err-lead_rows-clause-state
 returns-in_err-lead_rows-clause-state g c =
-    state_refused _ _ (begun_run c.args.self.now c.args.entries.now) (column_of c.args.image.now.bytes.now c.args.node) (list_of c.args.list) _ c.lead_rows.new.entries c.lead_rows.ensures.entries _ c.in_err-lead_rows.ensures.fault
+    step_refused _ _ (begun_run c.args.self.now c.args.entries.now)
+    (column (column_of c.args.image.now.bytes.now c.args.node) (list_of c.args.list) (lent c.args.entries.now c.args.work.now c.args.account.now))
+    c.lead_rows.new.entries _ c.lead_rows.ensures.entries _ c.in_err-lead_rows.ensures.fault
 
 pub overflow_add-self : goal.overflow_add-self
 overflow_add-self g c =
@@ -24,7 +26,9 @@ overflow_add-self g c =
 
 pub returns-clause-state : goal.returns-clause-state
 returns-clause-state g c =
-    state_led _ _ (begun_run c.args.self.now c.args.entries.now) (column_of c.args.image.now.bytes.now c.args.node) (list_of c.args.list) _ c.lead_rows.new.entries c.lead_rows.ensures.entries c.in_ok-lead_rows.ensures.fault
+    step_made _ _ (begun_run c.args.self.now c.args.entries.now)
+    (column (column_of c.args.image.now.bytes.now c.args.node) (list_of c.args.list) (lent c.args.entries.now c.args.work.now c.args.account.now))
+    c.lead_rows.new.entries _ c.lead_rows.ensures.entries _ _ refl c.in_ok-lead_rows.ensures.fault
 
 pub returns-clause-ledger : goal.returns-clause-ledger
 returns-clause-ledger g c =

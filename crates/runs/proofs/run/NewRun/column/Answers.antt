@@ -1,7 +1,7 @@
 use Rattle.runs.specs.Runs.{column_of, list_of, new_run}
-use Rattle.runs.proofs.Steps.{state_led, state_refused}
+use Rattle.runs.proofs.Steps.{step_made, step_refused}
 use Rattle.runs.proofs.run.NewRun.column.Goals as goal
-use Rattle.std.proofs.Common.{ℕ, ap, Option}
+use Rattle.std.proofs.Common.{refl, ℕ, ap, Option}
 use Rattle.runs.specs.Refusals.{unless}
 use Rattle.runs.specs.Requests.{column, accepted, refused}
 use Rattle.runs.specs.Runs.{lent}
@@ -9,11 +9,15 @@ use Rattle.runs.proofs.Agreeing.{follows}
 
 pub returns-in-Ok-clause-state : goal.returns-in-Ok-clause-state
 returns-in-Ok-clause-state g c =
-    state_led _ _ (new_run c.args.self c.args.entries.now) (column_of c.args.image.now.bytes.now c.args.node) (list_of c.args.list) _ c.lead_rows.new.entries c.lead_rows.ensures.entries c.in-Ok.ensures.fault
+    step_made _ _ (new_run c.args.self c.args.entries.now)
+    (column (column_of c.args.image.now.bytes.now c.args.node) (list_of c.args.list) (lent c.args.entries.now c.args.work.now c.args.account.now))
+    c.lead_rows.new.entries _ c.lead_rows.ensures.entries _ _ refl c.in-Ok.ensures.fault
 
 pub returns-in-Err-clause-state : goal.returns-in-Err-clause-state
 returns-in-Err-clause-state g c =
-    state_refused _ _ (new_run c.args.self c.args.entries.now) (column_of c.args.image.now.bytes.now c.args.node) (list_of c.args.list) _ c.lead_rows.new.entries c.lead_rows.ensures.entries _ c.in-Err.ensures.fault
+    step_refused _ _ (new_run c.args.self c.args.entries.now)
+    (column (column_of c.args.image.now.bytes.now c.args.node) (list_of c.args.list) (lent c.args.entries.now c.args.work.now c.args.account.now))
+    c.lead_rows.new.entries _ c.lead_rows.ensures.entries _ c.in-Err.ensures.fault
 
 pub returns-in-Ok-clause-ledger : goal.returns-in-Ok-clause-ledger
 returns-in-Ok-clause-ledger g c =

@@ -1,0 +1,146 @@
+#!/usr/bin/env python3
+"""Damages images at random and hands them to rowhash: an answer every time, never a crash, and all that is admitted hashes.
+
+    tools/damage.py [CASES [SEED]]     (10000 cases and seed 1 if left out)
+
+The images are those of crates/vectors/stdin and crates/rowhash/stdin. A case is one of them with some of its bytes
+or fields changed, cut off, moved or doubled. All cases go through `rowhash replay`, a few hundred to a process: each
+is admitted or refused, and of an admitted one each node with few rows is hashed in a run of its own, and its slots
+are asked for. Every line has to be answered by one line of the right form, within a time limit; a column that is lent
+enough has to be accepted. It ends with status 1 and the case's image where that is not so.
+"""
+
+import random
+import re
+import struct
+import subprocess
+import sys
+from pathlib import Path
+
+ROOT = Path(__file__).resolve().parent.parent
+PROGRAM = ROOT / "rowhash"
+BATCH = 200
+SECONDS = 120
+MOST_ROWS = 40
+
+# the fields of a record, with values at the edges of what rejections ask of them
+RECORD = 36
+EDGES = [0, 1, 2, 3, 4, 5, 7, 8, 9, 12, 13, 16, 17, 255, 256, 257, 65535, 65536, 1048575, 1048576, 1048577,
+         2**30 - 1, 2**30, 2**31 - 1, 2**31, 2**32 - 2, 2**32 - 1]
+
+ADMITTED = re.compile(r"admitted \d+|refused (?:[1-9]|10) \d+")
+SLOT = re.compile(r"null|boolean (true|false)|number [1248] \d+|float [248] [0-9a-f]+|(text|binary|view) \d+( [0-9a-f]+)?"
+                  r"|kind \d+|refused 1[37]")
+
+
+def good_images():
+    """The images of the programs' cases, each once, the large ones left out."""
+    images = []
+    for crate in ("vectors", "rowhash"):
+        for line in (ROOT / "crates" / crate / "stdin").read_text().splitlines():
+            name, _, digits = line.partition(" ")
+            if name == "image" and 8 <= len(digits) <= 8000 and len(digits) % 2 == 0:
+                try:
+                    images.append(bytes.fromhex(digits))
+                except ValueError:
+                    pass
+    return sorted(set(images))
+
+
+def damage(image, chance):
+    """An image with one to four things wrong with it."""
+    image = bytearray(image)
+    for _ in range(chance.randint(1, 4)):
+        if not image:
+            break
+        at = chance.randrange(len(image))
+        match chance.randrange(7):
+            case 0:
+                image[at] = chance.randrange(256)
+            case 1:
+                image[at] ^= 1 << chance.randrange(8)
+            case 2:
+                nodes = max(1, min(256, int.from_bytes(image[:4], "little")))
+                place = 4 + RECORD * chance.randrange(nodes) + 4 * chance.randrange(9)
+                image[place:place + 4] = struct.pack("<I", chance.choice(EDGES))
+            case 3:
+                place = at // 4 * 4
+                image[place:place + 4] = struct.pack("<I", chance.choice(EDGES))
+            case 4:
+                del image[at:]
+            case 5:
+                image[at:at] = image[at:at + chance.randint(1, 40)]
+            case 6:
+                other = chance.randrange(len(image))
+                count = chance.randint(1, 16)
+                image[at:at + count] = image[other:other + count]
+    return bytes(image)
+
+
+def nodes_of(image):
+    """Node numbers and rows, as far as the header and the records are there."""
+    count = int.from_bytes(image[:4], "little")
+    if not 1 <= count <= 256 or len(image) < 4 + RECORD * count:
+        return []
+    return [(node, int.from_bytes(image[4 + RECORD * node + 4:][:4], "little")) for node in range(count)]
+
+
+def commands(image, chance):
+    """The commands of a case; what of them is to be answered is told only if the image is admitted."""
+    lines = [("image " + image.hex(), ADMITTED)]
+    for node, rows in nodes_of(image)[:12]:
+        lines.append((f"slot {node} {chance.randrange(rows + 2)}", SLOT))
+        if rows <= MOST_ROWS:
+            lines.append(("begin" + " 0" * rows, "accepted"))
+            lines.append((f"column {node}", "accepted"))
+            lines.append((f"column {node}", "accepted"))
+            if rows:
+                lines.append((f"read {chance.randrange(rows)}", re.compile(r"[0-9a-f]{16} 2")))
+    return lines
+
+
+def check(case, image, lines, answers):
+    """Ends the program where an answer is not what it has to be."""
+    admitted = answers[0].startswith("admitted")
+    for (line, wanted), answer in zip(lines, answers):
+        if not admitted and line != lines[0][0]:
+            continue
+        fits = wanted.fullmatch(answer) if isinstance(wanted, re.Pattern) else wanted == answer
+        if not fits:
+            sys.exit(f"case {case}: {line[:60]} is answered {answer!r}\nimage {image.hex()}")
+    return admitted
+
+
+def main():
+    cases = int(sys.argv[1]) if len(sys.argv) > 1 else 10000
+    chance = random.Random(int(sys.argv[2]) if len(sys.argv) > 2 else 1)
+    images = good_images()
+    admitted = lines_in_all = 0
+    for start in range(0, cases, BATCH):
+        batch = [damage(chance.choice(images), chance) for _ in range(min(BATCH, cases - start))]
+        asked = [commands(image, chance) for image in batch]
+        text = "".join(line + "\n" for lines in asked for line, _ in lines)
+        try:
+            done = subprocess.run([PROGRAM, "replay"], input=text, capture_output=True, text=True, timeout=SECONDS)
+        except subprocess.TimeoutExpired:
+            sys.exit(f"cases {start} to {start + len(batch) - 1}: no answer within {SECONDS} seconds")
+        answers = done.stdout.splitlines()
+        if done.returncode != 0 or len(answers) != sum(map(len, asked)):
+            at = start
+            left = len(answers)
+            for lines in asked:
+                if left < len(lines):
+                    break
+                left -= len(lines)
+                at += 1
+            image = batch[min(at - start, len(batch) - 1)]
+            sys.exit(f"case {at}: status {done.returncode}: {done.stderr[:300]}\nimage {image.hex()}")
+        for number, (image, lines) in enumerate(zip(batch, asked), start):
+            admitted += check(number, image, lines, answers[:len(lines)])
+            answers = answers[len(lines):]
+            lines_in_all += len(lines)
+    print(f"{cases} damaged images, {admitted} of them admitted, {lines_in_all} lines: each was answered")
+
+
+if __name__ == "__main__":
+    main()
