@@ -1,4 +1,4 @@
-// Row hashes of archive tables: the numbers of a column, an image for a person, and commands on one.
+// Row hashes of archive tables: the numbers of a column, an image for a person, and commands on images and runs.
 #![tactic(auto)]
 
 mod answer;
