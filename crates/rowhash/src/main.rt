@@ -26,8 +26,10 @@ use std::process::ExitCode;
 const HELP: &str = "\
 rowhash: row hashes of archive tables
 
-  rowhash hash FILE         the number of each row of node 0, as 16 hexadecimal digits
-  rowhash hash FILE NODE    the same of another node
+  rowhash hash FILE [NODE ..] [--state STATE]
+                            the number of each row over these nodes, or over node 0, as 16
+                            hexadecimal digits; STATE is fnv1a (if left out), fnv1a:START or
+                            siphash:K0:K1
   rowhash show FILE         describe an image: a line for each node
   rowhash show FILE NODE    a line for each row of a node, with its slot
   rowhash replay            answer commands from standard input, each by one line
@@ -55,7 +57,7 @@ Commands of replay (numbers are decimal, or hexadecimal after 0x):
 Example:
 
   rowhash show examples/passes.img
-  rowhash hash examples/passes.img 1
+  rowhash hash examples/passes.img 1 2 --state siphash:1:2
   printf 'image-file examples/passes.img\\nslot 1 0\\n' | rowhash replay
   printf 'image-file examples/passes.img\\nbegin 0 0\\ncolumn 1 list 3 0\\nread 0\\n' | rowhash replay";
 
