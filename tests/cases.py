@@ -978,7 +978,7 @@ accepted("column 10")
 read_all()
 
 title("an account that passes the work: what needs none is accepted, and nothing else")
-for work, claimed in [(7, 8), (0, 1), (7, U64), (0, U64), (7, U64 - 3), (MOST_ROWS, U64 - 4)]:
+for work, claimed in [(7, 8), (0, 1), (7, 2**32), (7, U64), (0, U64), (7, U64 - 3), (MOST_ROWS, U64 - 4)]:
     accepted("begin 5 6 7")
     run(f"work {work}", "ok")
     run(f"claimed {claimed}", "ok")
