@@ -22,6 +22,7 @@ PROGRAM = ROOT / "rowhash"
 BATCH = 200
 SECONDS = 120
 MOST_ROWS = 40
+MOST_WORK = 15 * 2**20  # no column of an image needs more
 
 # the fields of a record, with values at the edges of what rejections ask of them
 RECORD = 36
@@ -119,12 +120,12 @@ def main():
     for start in range(0, cases, BATCH):
         batch = [damage(chance.choice(images), chance) for _ in range(min(BATCH, cases - start))]
         asked = [commands(image, chance) for image in batch]
-        text = "".join(line + "\n" for lines in asked for line, _ in lines)
+        text = f"work {MOST_WORK}\n" + "".join(line + "\n" for lines in asked for line, _ in lines)
         try:
             done = subprocess.run([PROGRAM, "replay"], input=text, capture_output=True, text=True, timeout=SECONDS)
         except subprocess.TimeoutExpired:
             sys.exit(f"cases {start} to {start + len(batch) - 1}: no answer within {SECONDS} seconds")
-        answers = done.stdout.splitlines()
+        answers = done.stdout.splitlines()[1:]
         if done.returncode != 0 or len(answers) != sum(map(len, asked)):
             at = start
             left = len(answers)
