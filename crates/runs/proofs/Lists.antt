@@ -1,6 +1,5 @@
 -- Lists of rows whose numbers are below a bound.
-use Rattle.std.proofs.Common.{◌≡◌, ℕ, zero, suc, ◌+◌, ◌<◌, ◌≤◌, Bool, true, false, ◌&&◌, List, [], ◌∷◌, ◌++◌, map, length, take, drop, set, get_or, ap, sym, subst, ◌∙◌, arith, lt-ltb, le-ltb, ltb-true, add-one, take-suc, take-suc-set, take_all}
-use Rattle.std.proofs.lemmas.List.{at_drop_more, map_push}
+use Rattle.std.proofs.Common.{◌≡◌, ℕ, zero, suc, ◌<◌, true, List, [], ◌∷◌, length, get_or, arith, ltb-true}
 use Rattle.std.proofs.lemmas.Bool.{and_parts}
 use Rattle.runs.specs.Columns.{all_below}
 

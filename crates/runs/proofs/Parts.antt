@@ -9,7 +9,7 @@ use Rattle.runs.specs.declared.call.Lent.{Lent}
 use Rattle.runs.specs.declared.call.Stage.{Stage}
 use Rattle.runs.specs.declared.call.Stage.TheVariants.{New, Begun}
 use Rattle.runs.specs.Columns.{all_below, met_at, slot}
-use Rattle.runs.specs.Requests.{Request, Reply, column, keep, read, refused, row_read}
+use Rattle.runs.specs.Requests.{Request, column, keep, read, row_read}
 use Rattle.runs.specs.Refusals.{refusal, unless}
 use Rattle.runs.specs.State.{State, kept, step, taken, told}
 use Rattle.runs.specs.Calls.{lent_of, stage_run}

@@ -1,12 +1,12 @@
 -- What a column and a keep make of a run and its words is a step of its state.
-use Rattle.std.proofs.Common.{◌≡◌, ℕ, ◌+◌, ◌++◌, Bool, true, List, take, drop, [], ◌∷◌, ◌==◌, sym, Some, None, Option, refl, ap, ap₂, ◌∙◌, arith, Bor, length}
+use Rattle.std.proofs.Common.{◌≡◌, ℕ, ◌+◌, ◌++◌, Bool, true, List, take, drop, [], ◌∷◌, sym, Some, None, Option, refl, ap, ap₂, ◌∙◌, arith, Bor}
 use Rattle.hash_state.specs.Writes.{Write}
 use Rattle.layout.specs.Records.{record_at}
 use Rattle.image.specs.Read.{slot_at}
 use Rattle.row_rule.specs.Number.{number_of}
 use Rattle.leaves.specs.Rows.{by_place, row_of}
 use Rattle.columns.specs.Column.{RowsThere, column_words, met_rows}
-use Rattle.runs.specs.Columns.{Column, list_below, meeting, met_at}
+use Rattle.runs.specs.Columns.{list_below, meeting, met_at}
 use Rattle.runs.specs.Runs.{column_of, list_of}
 use Rattle.runs.specs.Refusals.{refusal, unless}
 use Rattle.runs.specs.Requests.{Request}

@@ -85,7 +85,8 @@ impl NewRun {
         ensures refused { IfErr result (λ _. work.new ≡ work.old) }
         ensures account { account.new ≡ account.old }
     {
-        self.rows = keep_rows(self.rows, list, entries, work, account)?;
+        let kept = keep_rows(self.rows, list, entries, work, account)?;
+        self.rows = kept;
         Ok(())
     }
 }
