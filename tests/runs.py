@@ -50,8 +50,8 @@ sys.dont_write_bytecode = True
 
 import columns  # noqa: E402
 import model  # noqa: E402
-from columns import HOW, KINDS, MOST, TURNS, Column, lay, rng, some_column, some_tree  # noqa: E402
-from images import BOOLEAN, FLOAT, LIST, NULL, NUMBER, STRUCT, UTF8, VIEW  # noqa: E402
+from columns import HOW, KINDS, MOST, NESTED, TURNS, Column, lay, rng, some_column, some_tree  # noqa: E402
+from images import BOOLEAN, FLOAT, LIST, MAP, NULL, NUMBER, STRUCT, UTF8, VIEW  # noqa: E402
 from model import REFERENCE, STANDARD, U64, Fnv1a, Nothing, SipHash24  # noqa: E402
 
 STATES = (STANDARD, Fnv1a(0x123456789ABCDEF), REFERENCE, SipHash24(3, U64 - 5))
@@ -108,7 +108,7 @@ def led(state, entry, slots):
 
 
 def number(state, row):
-    return led(state, row.entry, tuple(slot for slot, _ in row.met))
+    return led(state, row.entry, tuple([slot for slot, _ in row.met])) if row.met else row.entry
 
 
 def unclaimed(work, claimed):
@@ -126,6 +126,7 @@ class Run:
         self.rows, self.count, self.columns = [], 0, []
         self.refused = min(self.asked, len(entries)) > MOST
         self.over, self.made, self.spared = self.refused, 0, work
+        self.wrote = set()  # which calls put words into the work
         self.faults = []  # of the calls that were refused since the last accepted one
         self.lines = []
         if not self.refused:
@@ -148,13 +149,18 @@ class Run:
         self.spared = min(self.spared, claimed)
         faults = self.column_faults(column, taken, *lent)
         note_lent(self, "column", (entries, work, claimed), need(column) if column else 0, faults)
+        if column and unclaimed(*lent[1:]) - need(column) in (-1, 0):
+            for sort in sorts_of_need(column):
+                cover(*sort, faults[0] if faults else "accepted")
         note_column(self, image, node, column, taken, faults)
         if self.refuses("column", faults):
             return
         taken = range(len(self.rows)) if taken is None else taken
-        self.rows = [row._replace(met=row.met + ((column.rows[r], r),)) for row, r in zip(self.rows, taken)]
+        met = [(slot, r) for r, slot in enumerate(column.rows)]
+        self.rows = [Row(row.origin, row.entry, row.met + (met[r],)) for row, r in zip(self.rows, taken)]
         self.count += 1
         self.columns.append((image, node))
+        self.wrote |= {"column"} if need(column) else set()
         self.lines[-1].append("accepted")
 
     def column_at(self, image, node):
@@ -190,6 +196,7 @@ class Run:
             return
         self.words[:len(self.rows)] = self.numbers()
         self.rows = [self.rows[r] for r in taken]
+        self.wrote |= {"keep"} if taken else set()
         self.lines[-1].append("accepted")
 
     def keep_faults(self, taken, entries, work, claimed):
@@ -241,7 +248,8 @@ class Run:
         return True
 
     def numbers(self):
-        return [number(self.state, row) for row in self.rows]
+        known = {id(row): number(self.state, row) for row in {id(row): row for row in self.rows}.values()}
+        return [known[id(row)] for row in self.rows]
 
     def told(self):
         """All lines."""
@@ -262,10 +270,10 @@ class Run:
         """The same rows by one keep and the accepted columns, in their order."""
         origins = [row.origin for row in self.rows]
         most = max([len(origins)] + [need(self.column_at(*at)) for at in self.columns])
-        again = Run(self.state, self.images, self.entries, self.asked, work=most)
-        again.keep(origins)
+        again = Run(self.state, self.images, self.entries, self.asked, work=most + 3)
+        again.keep(origins, claimed=3)
         for k, at in enumerate(self.columns):
-            again.column(*at, taken=[row.met[k][1] for row in self.rows])
+            again.column(*at, taken=[row.met[k][1] for row in self.rows], claimed=3)
         assert again.rows == self.rows and again.count == self.count and again.numbers() == self.numbers()
         if self.count:
             for row in range(min(3, len(self.rows))):
@@ -303,6 +311,20 @@ def note_lent(run, call, lent, wanted, faults):
         cover("need not met by one", call, outcome)
     if claimed == there and not wanted:
         cover("nothing unclaimed, nothing needed", call, outcome)
+
+
+def sorts_of_need(column):
+    """Where a column's need comes from."""
+    if not need(column):
+        return set()
+    kind, below = column.kind, column.children
+    sorts = {("need of a kind", kind, any(map(need, below)))}
+    if len(below[0].rows) + need(below[0]) < need(column):
+        sorts.add(("need by a later child", kind))
+    most = max(len(child.rows) for child in below)
+    if all(len(child.rows) < most for child in below if len(child.rows) + need(child) == need(column)):
+        sorts.add(("need by a child of fewer rows", kind))
+    return sorts
 
 
 def note_column(run, place, node, column, taken, faults):
@@ -380,6 +402,8 @@ def note_run(run):
         cover("images", len(run.images))
     if len(run.rows) < len(run.words):
         cover("words behind the rows", run.stage)
+    for call in run.wrote if run.spared else ():
+        cover("claimed words stay", call)
     if run.count == MOST_COLUMNS:
         cover("255 columns", run.state)
 
@@ -417,7 +441,9 @@ def required():
     for sort in ("claimed more than lent", "claimed 2^64 - 1"):
         wanted |= {(sort, call, some, outcome) for call, n in calls for some, outcome in ((False, "accepted"), (True, n))}
     wanted |= {("need met", call, "accepted") for call, _ in calls} | {("need not met by one", *call) for call in calls}
+    wanted |= {(*sort, outcome) for kind in NESTED for sort in required_needs(kind) for outcome in ("accepted", 16)}
     wanted |= {("nothing unclaimed, nothing needed", call, "accepted") for call, _ in calls}
+    wanted |= {("claimed words stay", call) for call, _ in calls}
     wanted |= {("no such node", sort, 13) for sort in
                ("no such place", "no image there", "first node not there", "2^32 past one", "2^64 - 1")}
     wanted |= {("list number", sort, 15) for sort in ("as many as rows", "higher", "2^32 - 1")}
@@ -435,6 +461,14 @@ def required():
     wanted |= {("calls", some, state) for some in (0, 1) for state in STATES}
     wanted |= {("words behind the rows", stage) for stage in STAGES} | {("255 columns", state) for state in STATES}
     wanted |= {("told again", "columns", n, "keep", other) for n in range(4) for other in (False, True)}
+    return wanted
+
+
+def required_needs(kind):
+    """Where needs of a kind are to come from, just met as well as not by one word."""
+    wanted = {("need of a kind", kind, deep) for deep in (False, True)}
+    if kind in (STRUCT, MAP):
+        wanted |= {("need by a later child", kind), ("need by a child of fewer rows", kind)}
     return wanted
 
 
@@ -741,6 +775,30 @@ def runs_of_lent_words():
         tell(run)
 
 
+def runs_of_needs():
+    rows = 3
+    for kind in NESTED:
+        group(f"kind {kind}: needs that are just met, and not by one word")
+        missing = required_needs(kind)
+        while missing:
+            count = rng.randrange(1, 4) if kind == STRUCT else 2 if kind == MAP else 1
+            column = Column(kind, *(some_tree(rng.randrange(1, 4)) for _ in range(count)), null_rate=0.1).drawn(rows)
+            made = image(column)
+            if not missing & sorts_of_need(column):
+                continue
+            missing -= sorts_of_need(column)
+            told = show(made)
+            at, wanted, state = made.nodes.index(column), need(column), rng.choice(STATES)
+            run = Run(state, told, some_entries(rows), work=wanted + 4)
+            for taken in (None, some_taken(rows, rows), None):
+                run.column(0, at, taken, claimed=4, work=wanted + 3)
+                run.column(0, at, taken, work=wanted - 1)
+                run.column(0, at, taken, claimed=5)
+                run.column(0, at, taken, **rng.choice(({"work": wanted}, {"claimed": 4})))
+                run.read(rng.randrange(rows))
+            tell(run)
+
+
 def runs_of_no_rows():
     group("runs without rows, without calls, without images, and keeps that leave no row")
     told = show(image(Column(UTF8).drawn(0), Column(BOOLEAN).drawn(3), Column(STRUCT, Column(VIEW)).drawn(0)))
@@ -855,6 +913,7 @@ def main():
     runs_of_kinds()
     runs_of_all_columns()
     runs_of_lent_words()
+    runs_of_needs()
     runs_of_no_rows()
     runs_that_end_early()
     runs_of_limits()

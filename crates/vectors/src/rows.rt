@@ -63,7 +63,7 @@ fn check_images(
         let Some(bytes) = next else {
             break;
         };
-        next = progress.check_image(heap, input, bytes)?;
+        next = progress.check_admitted(heap, input, bytes)?;
     }
     Ok(())
 }
@@ -102,7 +102,8 @@ impl Progress {
         }
     }
 
-    fn check_image(
+    // Checks the lines after one that brings these images, each in its place.
+    fn check_admitted(
         &mut self,
         heap: Global,
         input: &mut BufReader<Stdin>,

@@ -11,7 +11,7 @@ use std::alloc::{AllocError, Global};
 // What the work holds before a run.
 const UNCLEARED: u64 = 0x9e3779b97f4a7c15;
 
-// What places for answers hold before a run. No call answers it, since a run counts up to 255.
+// What places for answers hold before a run. No call answers it, since a read counts a column at least.
 const NO_ANSWER: Answer = Answer::Row(RowRead {
     number: UNCLEARED,
     count: 0,
@@ -88,7 +88,7 @@ impl Reply {
         match answer {
             Answer::Accepted => Reply::Accepted,
             Answer::Refused(fault) => Reply::Refused(u64::from(fault.number())),
-            Answer::Row(row) if row.count == 0 => Reply::None,
+            Answer::Row(row) if row.count == 0 && row.number == UNCLEARED => Reply::None,
             Answer::Row(row) => Reply::Row(row.number, u64::from(row.count)),
         }
     }
