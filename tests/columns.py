@@ -4,7 +4,8 @@
     tests/columns.py [DIRECTORY]            writes DIRECTORY/stdin (crates/vectors if none is given)
     tests/columns.py --check [DIRECTORY]    tries the images and whether the file is up to date
 
-crates/vectors reads the file and compares. Both ways end with a table of what
+crates/vectors reads the file and compares; tests/scripts.py writes the end of it,
+from the line RUNS on. Both ways end with a table of what
 the cases cover, and fail where they miss some of what `required` asks for.
 
 A case begins with columns by what they mean: each row is a slot, a tree of
@@ -76,6 +77,9 @@ READ = {
     LIST: "nulls a p tab cnt", LIST_VIEW: "nulls a b p tab cnt", MAP: "nulls a tab cnt",
     FIXED_SIZE_LIST: "nulls p tab cnt", RUN_END: "a p tab cnt",
 }
+
+# the line of the file where the part of tests/scripts.py begins
+RUNS = "# tests/scripts.py writes the lines from here on, and says what they are\n"
 
 rng = random.Random()
 
@@ -1259,6 +1263,18 @@ def check(image, columns):
         assert slots == columns[node].rows, (node, kind)
 
 
+def store(directories, part, text, checking):
+    """Writes a part of stdin, or checks it: 0 before the line RUNS, or 1 after it."""
+    directory = pathlib.Path(directories[0]) if directories else ROOT / "crates" / "vectors"
+    file = directory / "stdin"
+    before, _, after = file.read_text().partition(RUNS) if file.exists() else ("", "", "")
+    if checking:
+        assert text == (before, after)[part], f"{file} is not up to date"
+        return
+    directory.mkdir(parents=True, exist_ok=True)
+    file.write_text(text + RUNS + after if part == 0 else before + RUNS + text)
+
+
 def main():
     """Works out all cases, and writes or checks them."""
     words = sys.argv[1:]
@@ -1282,15 +1298,11 @@ def main():
     missing = required() - covered
     assert not missing, sorted(missing, key=str)
 
-    text = "\n".join(["# tests/columns.py writes this file and says what the lines are"] + lines) + "\n"
-    file = (pathlib.Path(words[0]) if words else ROOT / "crates" / "vectors") / "stdin"
+    text = "\n".join(["# tests/columns.py writes these lines and says what they are"] + lines) + "\n\n"
     if checking:
         for image, columns in images:
             check(image, columns)
-        assert file.read_text() == text, f"{file} is not up to date"
-    else:
-        file.parent.mkdir(parents=True, exist_ok=True)
-        file.write_text(text)
+    store(words, 0, text, checking)
     for title, made, asked, numbers in counts:
         print(f"{made:4} images {asked:5} lines {numbers:6} numbers  {title}")
     made, asked, numbers = (sum(count[k] for count in counts) for k in (1, 2, 3))

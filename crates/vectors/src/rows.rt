@@ -1,10 +1,11 @@
-// The numbers of columns, as standard input has them.
+// The numbers of columns, and runs, as standard input has them.
 ghost use Rattle.std.specs.Prelude.{◌≡◌, ◌^◌, ◌<◌, true, IfSome, length};
 ghost use Rattle.columns.specs.Column.{RowsThere, met_rows};
 ghost use Rattle.columns.specs.Jobs.{need};
 ghost use Rattle.layout.specs.Records.{nodes, record_at};
 
 use crate::line::{Line, Question, State};
+use crate::script::{End, Script, check_run};
 use anyhow::{Context, anyhow};
 use columns::{hash_column, node_need};
 use hash_state::{Fnv1aState, HashState};
@@ -21,99 +22,173 @@ const CLAIMED: usize = 5;
 const UNCLEARED: u64 = 0x9e3779b97f4a7c15;
 
 // How far the lines are read, and what of them agreed.
-#[derive(Clone, Copy)]
+#[derive(Drop)]
 struct Progress {
     line: u64,
     state: State,
+    script: Script,
     images: u64,
     columns: u64,
     numbers: u64,
+    runs: u64,
+    calls: u64,
 }
 
 pub(crate) fn check(rt: &HostRuntime) -> anyhow::Result<()> {
-    let mut input = BufReader::new(rt.alloc(), rt.stdin())?;
-    let mut progress = Progress {
-        line: 0,
-        state: State::Fnv1a(Fnv1aState::new()),
-        images: 0,
-        columns: 0,
-        numbers: 0,
-    };
-    let checked = check_images(rt.alloc(), &mut input, &mut progress);
+    let heap = rt.alloc();
+    let mut input = BufReader::new(heap, rt.stdin())?;
+    let mut progress = Progress::new(heap);
+    let checked = check_images(heap, &mut input, &mut progress);
     let line = progress.line;
     checked.context(format_args!("line {line} of standard input"))?;
     let images = progress.images;
     let columns = progress.columns;
     let numbers = progress.numbers;
     println!(rt; "columns: {columns} columns of {images} images: {numbers} numbers agree")?;
+    let runs = progress.runs;
+    let calls = progress.calls;
+    println!(rt; "runs: {runs} runs of {calls} calls: all answers agree")?;
     Ok(())
 }
 
-// An image borrows its bytes, so each is checked by a call of its own.
+// Images borrow their bytes, so those of each line are checked by a call of its own.
 fn check_images(
     heap: Global,
     input: &mut BufReader<Stdin>,
     progress: &mut Progress,
 ) -> anyhow::Result<()> {
-    let mut next = progress.check_lines(heap, input, &Image::empty())?;
+    let mut next = progress.check_lines(heap, input, &[])?;
     // a count, since nothing tells how many images are to come
     for _ in 0..u64::MAX {
         let Some(bytes) = next else {
             break;
         };
-        next = progress.check_image(heap, input, bytes.as_slice())?;
+        next = progress.check_admitted(heap, input, bytes)?;
     }
     Ok(())
 }
 
+// Puts an image into a place, which stays as it is where there are no bytes.
+fn admit<'a>(image: &mut Image<'a>, bytes: &'a [u8]) -> anyhow::Result<()> {
+    if bytes.is_empty() {
+        return Ok(());
+    }
+    if let Err(fault) = image.admit(bytes) {
+        let (number, node) = fault.numbered();
+        return Err(anyhow!("an image is refused: {number} at node {node}"));
+    }
+    Ok(())
+}
+
+// The bytes at a place, or none of them.
+fn bytes_at(images: &[Vec<u8>], place: usize) -> &[u8] {
+    match images.get(place) {
+        Some(bytes) => bytes.as_slice(),
+        None => &[],
+    }
+}
+
 impl Progress {
-    fn check_image(
+    fn new(heap: Global) -> Progress {
+        Progress {
+            line: 0,
+            state: State::Fnv1a(Fnv1aState::new()),
+            script: Script::new(heap),
+            images: 0,
+            columns: 0,
+            numbers: 0,
+            runs: 0,
+            calls: 0,
+        }
+    }
+
+    // Checks the lines after one that brings these images, each in its place.
+    fn check_admitted(
         &mut self,
         heap: Global,
         input: &mut BufReader<Stdin>,
-        bytes: &[u8],
-    ) -> anyhow::Result<Option<Vec<u8>>> {
-        let mut image = Image::empty();
-        if let Err(fault) = image.admit(bytes) {
-            let (number, node) = fault.numbered();
-            return Err(anyhow!("the image is refused: {number} at node {node}"));
+        images: Vec<Vec<u8>>,
+    ) -> anyhow::Result<Option<Vec<Vec<u8>>>> {
+        let mut first = Image::empty();
+        let mut second = Image::empty();
+        let mut third = Image::empty();
+        admit(&mut first, bytes_at(images.as_slice(), 0))?;
+        admit(&mut second, bytes_at(images.as_slice(), 1))?;
+        admit(&mut third, bytes_at(images.as_slice(), 2))?;
+        if images.len() > 3 {
+            return Err(anyhow!("too many images"));
         }
-        self.images = self.images.saturating_add(1);
-        self.check_lines(heap, input, &image)
+        let before = self.columns;
+        let places = [&first, &second, &third];
+        let next = self.check_lines(heap, input, &places[..images.len()])?;
+        // images of runs are not counted
+        if self.columns > before {
+            self.images = self.images.saturating_add(1);
+        }
+        Ok(next)
     }
 
-    // Checks lines until one brings another image, whose bytes it gives, or there are no more.
+    // Checks lines until one brings other images, whose bytes it gives, or there are no more.
     fn check_lines(
         &mut self,
         heap: Global,
         input: &mut BufReader<Stdin>,
-        image: &Image<'_>,
-    ) -> anyhow::Result<Option<Vec<u8>>> {
+        images: &[&Image<'_>],
+    ) -> anyhow::Result<Option<Vec<Vec<u8>>>> {
         for line in input.split(heap, b'\n') {
             self.line = self.line.saturating_add(1);
             match Line::parse(heap, line?.as_slice())? {
                 Some(Line::PassedOver) => {}
-                Some(Line::Image(bytes)) => return Ok(Some(bytes)),
+                Some(Line::Images(bytes)) => return Ok(Some(bytes)),
                 Some(Line::State(state)) => self.state = state,
-                Some(Line::Column(question)) => self.check_column(heap, image, &question)?,
+                Some(Line::Column(question)) => self.check_column(heap, images, &question)?,
+                Some(Line::Run(script)) => self.script = script,
+                Some(Line::Call(mut scripted)) => {
+                    scripted.line = self.line;
+                    self.script.steps.push(scripted)?;
+                }
+                Some(Line::End(end)) => self.check_script(heap, images, &end)?,
                 None => return Err(anyhow!("not understood")),
             }
         }
         Ok(None)
     }
 
+    // The column is one of the first image.
     fn check_column(
         &mut self,
         heap: Global,
-        image: &Image<'_>,
+        images: &[&Image<'_>],
         question: &Question,
     ) -> anyhow::Result<()> {
+        let Some(image) = images.first() else {
+            return Err(anyhow!("no image"));
+        };
         match self.state {
             State::Fnv1a(state) => check_numbers(heap, &state, image, question)?,
             State::SipHash(state) => check_numbers(heap, &state, image, question)?,
         }
         self.columns = self.columns.saturating_add(1);
         self.numbers = self.numbers.saturating_add(question.numbers.len() as u64);
+        Ok(())
+    }
+
+    fn check_script(
+        &mut self,
+        heap: Global,
+        images: &[&Image<'_>],
+        end: &End,
+    ) -> anyhow::Result<()> {
+        match self.state {
+            State::Fnv1a(state) => {
+                check_run(heap, &state, images, &self.script, end, &mut self.line)?
+            }
+            State::SipHash(state) => {
+                check_run(heap, &state, images, &self.script, end, &mut self.line)?
+            }
+        }
+        self.runs = self.runs.saturating_add(1);
+        self.calls = self.calls.saturating_add(self.script.steps.len() as u64);
         Ok(())
     }
 }
