@@ -1,8 +1,6 @@
 -- FNV-1a over lists in parts, the bound of its numbers, and the bytes of a word.
-use Rattle.std.specs.Prelude.{◌≡◌, ℕ, zero, suc, ◌+◌, ◌-◌, ◌*◌, ◌/◌, ◌%◌, ◌^◌, ◌<◌, List, [], ◌∷◌, ◌++◌, length, take, drop, slice_index, refl}
-use Rattle.std.specs.List.{fold}
-use Rattle.std.specs.Simd.{first_chunks}
-use Rattle.std.proofs.Common.{sym, ap, ◌∙◌, take-append-drop, length-drop, rules, arith}
+use Rattle.std.specs.Prelude.{◌≡◌, ℕ, ◌+◌, ◌-◌, ◌/◌, ◌%◌, ◌^◌, ◌<◌, List, [], ◌∷◌, ◌++◌, length, take, drop, slice_index}
+use Rattle.std.proofs.Common.{sym, ap, ◌∙◌, take-append-drop, rules, arith}
 use Rattle.std.proofs.lemmas.List.{at_drop_more, take_rest}
 use Rattle.std.proofs.lemmas.List.Sums.{fold-append}
 use Rattle.hash_state.specs.Writes.{le_bytes}
@@ -32,19 +30,3 @@ fnv1a_parts xs k h =
     ap (fnv1a (fnv1a h (take k xs))) (take_rest xs k)
     ∙ sym (fnv1a-append (take k xs) (drop k xs) h)
     ∙ ap (fnv1a h) (take-append-drop k xs)
-
-fnv1a-blocks : (n k h : ℕ) (xs : List ℕ) → length xs ≡ k * n → fold fnv1a h (first_chunks n k xs) ≡ fnv1a h xs
-fnv1a-blocks n zero h [] l = refl
-fnv1a-blocks n zero h (x ∷ xs) l = absurd (omega (arith, l))
-fnv1a-blocks n (suc k) h xs l =
-    fnv1a-blocks n k (fnv1a h (take n xs)) (drop n xs) (omega (arith, length-drop n xs, l))
-    ∙ sym (fnv1a-append (take n xs) (drop n xs) h)
-    ∙ ap (fnv1a h) (take-append-drop n xs)
-
--- A list by blocks of eight, which stand at its end.
-pub fnv1a_by_blocks : (h : ℕ) (xs : List ℕ) → fold fnv1a (fnv1a h (take (length xs % 8) xs)) (first_chunks 8 (length xs / 8) (drop (length xs % 8) xs)) ≡ fnv1a h xs
-fnv1a_by_blocks h xs =
-    let odd : ℕ = length xs % 8 in
-    fnv1a-blocks 8 (length xs / 8) (fnv1a h (take odd xs)) (drop odd xs) (omega (arith, length-drop odd xs))
-    ∙ sym (fnv1a-append (take odd xs) (drop odd xs) h)
-    ∙ ap (fnv1a h) (take-append-drop odd xs)

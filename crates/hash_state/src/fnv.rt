@@ -1,6 +1,5 @@
 // FNV-1a as a hasher.
 ghost use Rattle.std.specs.Prelude.{◌≡◌, ◌^◌, ◌<◌};
-ghost use Rattle.std.specs.List.{fold};
 ghost use Rattle.hash_state.specs.Writes.{joined};
 ghost use Rattle.hash_state.specs.Fnv.{fnv1a, offset_basis, step};
 ghost use Rattle.hash_state.specs.Hashing.{fnv1a_below};
@@ -28,12 +27,25 @@ fn hashed(hash: u64, bytes: &[u8]) -> u64
     bytes.iter().fold(hash, |hash, byte| step(hash, *byte))
 }
 
-// The same by blocks of eight.
+// The same of a string, four bytes a turn, where each turn may end after any of them: of strings of any length only the
+// end of the loop is foretold wrongly. A loop of one byte a turn is unrolled by the compiler, and ends twice.
 #[inline(always)]
-fn hashed_blocks(hash: u64, blocks: &[[u8; 8]]) -> u64
-    ensures { result ≡ fold fnv1a hash blocks.now }
+fn hashed_string(hash: u64, bytes: &[u8]) -> u64
+    ensures { result ≡ fnv1a hash bytes.now }
 {
-    blocks.iter().fold(hash, |hash, block| hashed(hash, block))
+    let mut hash = hash;
+    let mut rest = bytes;
+    while let [a, after @ ..] = rest {
+        hash = step(hash, *a);
+        let [b, after @ ..] = after else { break };
+        hash = step(hash, *b);
+        let [c, after @ ..] = after else { break };
+        hash = step(hash, *c);
+        let [d, after @ ..] = after else { break };
+        hash = step(hash, *d);
+        rest = after;
+    }
+    hash
 }
 
 impl Hasher for Fnv1aHasher {
@@ -67,11 +79,9 @@ impl Hasher for Fnv1aHasher {
         self.write_u64(high);
     }
 
-    // The bytes that are no whole block come first: of strings of any length most of the time is then spent in blocks.
     #[inline(always)]
     fn write(&mut self, bytes: &[u8]) {
-        let (odd, blocks) = bytes.as_rchunks::<8>();
-        self.hash = hashed_blocks(hashed(self.hash, odd), blocks);
+        self.hash = hashed_string(self.hash, bytes);
     }
 
     fn finish(&self) -> u64 {

@@ -31,6 +31,13 @@ module _ (bytes : List ℕ) (place size : ℕ) (inside : place + size ≤ length
   length-part : length (part bytes place size) ≡ size
   length-part = length-take-le size (drop place bytes) (omega (arith, length-drop place bytes))
 
+-- the low word of a view, by its halves
+pub low_word : (bytes : List ℕ) (v : ℕ) → field 8 bytes v ≡ view_length bytes v + 2 ^ 32 * field 4 bytes (v + 4)
+low_word bytes v =
+    let q : v + 1 + 1 + 1 + 1 ≡ v + 4 = omega arith in
+    let h : field 4 bytes (v + 1 + 1 + 1 + 1) ≡ field 4 bytes (v + 4) = ap (field 4 bytes) q in
+    omega arith
+
 module _ (bytes : List ℕ) (v : ℕ) (inside : v + 16 ≤ length bytes) (short : view_length bytes v ≤ 12) (padded : bad_padding bytes v ≡ false) where
   abbrev size : ℕ
   size = view_length bytes v
@@ -76,16 +83,10 @@ module _ (bytes : List ℕ) (v : ℕ) (inside : v + 16 ≤ length bytes) (short 
       behind : (k : ℕ) → size ≤ k + 4 → k < 8 → get_or bytes (v + 8 + k) 0 ≡ 0
       behind k a b = subst (λ (j : ℕ). get_or bytes j 0 ≡ 0) (omega arith) (zeros (k + 4) a (omega arith))
 
-  low_word : field 8 bytes v ≡ size + 2 ^ 32 * field 4 bytes (v + 4)
-  low_word =
-      let q : v + 1 + 1 + 1 + 1 ≡ v + 4 = omega arith in
-      let h : field 4 bytes (v + 1 + 1 + 1 + 1) ≡ field 4 bytes (v + 4) = ap (field 4 bytes) q in
-      omega arith
-
   pub inline_writes : Pair (field 8 bytes v) (field 8 bytes (v + 8)) ∷ [] ≡ view_writes own
   inline_writes =
       let long : length own ≡ size = length-part bytes (v + 4) size (omega arith) in
-      let low : length own + 2 ^ 32 * le_number (take 4 own) ≡ field 8 bytes v = ap₂ (λ (n x : ℕ). n + 2 ^ 32 * x) long first_four ∙ sym low_word in
+      let low : length own + 2 ^ 32 * le_number (take 4 own) ≡ field 8 bytes v = ap₂ (λ (n x : ℕ). n + 2 ^ 32 * x) long first_four ∙ sym (low_word bytes v) in
       sym
       (cond-true (leb (length own) 12) (Pair (length own + 2 ^ 32 * le_number (take 4 own)) (le_number (drop 4 own)) ∷ []) (tell.binary own) (le-leb (length own) 12 (omega arith))
       ∙ ap₂ (λ (x y : ℕ). Pair x y ∷ []) low others)
