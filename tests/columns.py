@@ -643,9 +643,8 @@ def required_questions():
     return wanted | {("entry", what) for what in ("0", "above 0", "past 2^64 within a column")}
 
 
-def table():
+def table(wanted, covered):
     """How much of each sort has to be covered, and how much of it is."""
-    wanted = required()
     for sort in sorted({what[0] for what in wanted}):
         asked = {what for what in wanted if what[0] == sort}
         print(f"{len(asked & covered):4} of {len(asked):4} covered: {sort}")
@@ -1307,7 +1306,7 @@ def main():
         print(f"{made:4} images {asked:5} lines {numbers:6} numbers  {title}")
     made, asked, numbers = (sum(count[k] for count in counts) for k in (1, 2, 3))
     print(f"{made:4} images {asked:5} lines {numbers:6} numbers, {len(text):,} bytes")
-    table()
+    table(required(), covered)
 
 
 if __name__ == "__main__":

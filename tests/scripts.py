@@ -472,14 +472,6 @@ def required_needs(kind):
     return wanted
 
 
-def table():
-    """How much of each sort has to be covered, and how much of it is."""
-    wanted = required()
-    for sort in sorted({what[0] for what in wanted}):
-        asked = {what for what in wanted if what[0] == sort}
-        print(f"{len(asked & covered):4} of {len(asked):4} covered: {sort}")
-
-
 # ---------------------------------------------------------------------------
 # The lines.
 
@@ -927,7 +919,7 @@ def main():
         print(f"{told:4} runs {calls:6} calls  {title}")
     told, calls = (sum(count[k] for count in counts) for k in (1, 2))
     print(f"{told:4} runs {calls:6} calls, {len(text):,} bytes")
-    table()
+    columns.table(required(), covered)
     missing = required() - covered
     assert not missing, sorted(missing, key=str)
 
