@@ -66,7 +66,12 @@ fn perform(rt: &HostRuntime) -> Result<(), Failure> {
     match Invocation::parse(rt.alloc(), args)? {
         Invocation::Help => rt.println(HELP)?,
         Invocation::Version => rt.println("rowhash 0.1.0")?,
-        Invocation::Hash(path, nodes, state) => hash::hash(rt, path.as_str(), nodes.as_slice(), state)?,
+        Invocation::Hash(path, nodes, state) => hash::hash(
+            rt,
+            path.as_str(),
+            nodes.as_slice(),
+            state,
+        )?,
         Invocation::Show(path, node) => show::show(rt, path.as_str(), node)?,
         Invocation::Replay => replay::replay(rt)?,
     }
