@@ -9,7 +9,7 @@ use Rattle.runs.specs.Columns.{Column, all_below, met_at, slot}
 use Rattle.runs.specs.Requests.{Request, Reply, column, keep, read, accepted, refused, row_read}
 use Rattle.runs.specs.Refusals.{refusal, unless}
 use Rattle.runs.specs.Ledger.{Row, Ledger, added, all_meet, answer, answers, begun, entered, is_first, next, number, row_at, run}
-use Rattle.runs.specs.State.{State, led_words, new_state, replies, step, steps, taken, told}
+use Rattle.runs.specs.State.{State, led_words, replies, step, steps, taken, told}
 use Rattle.runs.specs.Lasting.{begun_state}
 use Rattle.runs.specs.Agreement.{Agrees, Follows, Holds}
 use Rattle.runs.proofs.Going.{keep_goes, read_goes}
@@ -54,7 +54,7 @@ module _ (ONE : List Write → ℕ) (SEED : ℕ → List Write → ℕ) where
   holds_entered j [] = tt
   holds_entered j (e ∷ entries) = (refl, refl, holds_entered (j + 1) entries)
 
-  pub agrees_begun : (entries : List ℕ) → Agrees ONE SEED (begun entries) (new_state entries)
+  pub agrees_begun : (entries : List ℕ) → Agrees ONE SEED (begun entries) (begun_state (length entries) entries)
   agrees_begun entries = record { rows = sym (length-entered 0 entries); count = refl; holds = holds_entered 0 entries }
 
   -- a new run over more words than begin took

@@ -12,6 +12,7 @@ module _ (ONE : List Write → ℕ) (SEED : ℕ → List Write → ℕ) where
   Holds count (r ∷ rows) [] = ⊥
   Holds count (r ∷ rows) (w ∷ words) = (w ≡ number ONE SEED r) × (length r.met ≡ count) × Holds count rows words
 
+  -- as many rows, as many columns, and each row's word its number
   pub record Agrees (l : Ledger) (s : State) : Type 0 where
     pub rows : s.rows ≡ length l.rows
     pub count : s.count ≡ length l.columns

@@ -15,15 +15,18 @@ use Rattle.runs.specs.Ledger.{Ledger, next}
 use Rattle.runs.specs.State.{State, step, told}
 use Rattle.runs.specs.Runs.{begun_run, column_of, fault_number, list_of, new_run}
 
+-- a run that is new or begun, with the entries that it is lent
 abbrev pub stage_run : Stage → List ℕ → State
 stage_run (New run) words = new_run run words
 stage_run (Begun run) words = begun_run run words
 
+-- what an answer says
 abbrev pub reply_of : Answer → Reply
 reply_of Accepted = accepted
 reply_of (Refused fault) = refused (fault_number fault)
 reply_of (Row told) = row_read told.number told.count
 
+-- the bytes of the images
 abbrev pub images_bytes : List (Bor Image) → List (List ℕ)
 images_bytes images = map (λ image. image.now.bytes.now) images
 
@@ -47,6 +50,7 @@ spared work (Column image node list lent) = lent.claimed
 spared work (Keep list lent) = lent.claimed
 spared work (Read row room) = work
 
+-- the words at the front that all of the calls leave
 abbrev pub all_spared : ℕ → List Call → ℕ
 all_spared work [] = work
 all_spared work (call ∷ calls) = min (spared work call) (all_spared work calls)

@@ -20,6 +20,7 @@ is_there c = nat_lt c.node (nodes c.bytes)
 abbrev pub height : Column → ℕ
 height c = (record_at c.bytes c.node).rows
 
+-- the slot at one of its rows
 abbrev pub slot : Column → ℕ → Slot
 slot c row = slot_at c.bytes c.node row
 
@@ -37,6 +38,7 @@ abbrev pub meeting_of : ℕ → Option (List ℕ) → ℕ
 meeting_of rows None = rows
 meeting_of rows (Some list) = length list
 
+-- the same of a column
 abbrev pub meeting : Column → Option (List ℕ) → ℕ
 meeting c list = meeting_of (height c) list
 
@@ -45,6 +47,7 @@ abbrev pub all_below : ℕ → List ℕ → Bool
 all_below bound [] = true
 all_below bound (k ∷ list) = nat_lt k bound && all_below bound list
 
+-- the same where there is a list
 abbrev pub list_below : ℕ → Option (List ℕ) → Bool
 list_below bound None = true
 list_below bound (Some list) = all_below bound list
@@ -67,5 +70,6 @@ combining first Map = true
 combining first (FixedSizeList p) = true
 combining first (RunEnd w) = not first
 
+-- a column combines as its type does
 abbrev pub combines : Bool → Column → Bool
 combines first c = combining first (type_of c.bytes c.node)

@@ -23,9 +23,11 @@ pub record Ledger : Type 0 where
   pub rows : List Row
   pub columns : List Column
 
+-- what stands for a row that is not there
 abbrev pub no_row : Row
 no_row = record { origin = 0; entry = 0; met = [] }
 
+-- row j of the rows
 abbrev pub row_at : List Row → ℕ → Row
 row_at rows j = slice_index_or rows j no_row
 
@@ -34,6 +36,7 @@ abbrev pub entered : ℕ → List ℕ → List Row
 entered j [] = []
 entered j (e ∷ entries) = record { origin = j; entry = e; met = [] } ∷ entered (j + 1) entries
 
+-- the ledger that begin gives: these rows, and no columns
 abbrev pub begun : List ℕ → Ledger
 begun entries = record { rows = entered 0 entries; columns = [] }
 
@@ -56,10 +59,12 @@ added l (read k entries) = l
 abbrev pub next : Ledger → Request → Ledger
 next l request = unless (refusal (length l.rows) (length l.columns) request) (λ _. l) (added l request)
 
+-- one request after the other
 abbrev pub run : Ledger → List Request → Ledger
 run l [] = l
 run l (request ∷ rest) = run (next l request) rest
 
+-- nothing came before
 abbrev pub is_first : {X : Type 0} → List X → Bool
 is_first [] = true
 is_first (x ∷ xs) = false
@@ -70,6 +75,7 @@ module _ (ONE : List Write → ℕ) (SEED : ℕ → List Write → ℕ) where
   led e [] = e
   led e (m ∷ earlier) = number_of ONE SEED (is_first earlier) (led e earlier) m.slot
 
+  -- a row's number
   abbrev pub number : Row → ℕ
   number r = led r.entry r.met
 
@@ -77,6 +83,7 @@ module _ (ONE : List Write → ℕ) (SEED : ℕ → List Write → ℕ) where
   abbrev pub answer : Ledger → Request → Reply
   answer l request = reply (length l.rows) (length l.columns) (λ k. number (row_at l.rows k)) request
 
+  -- the answers to one request after the other
   abbrev pub answers : Ledger → List Request → List Reply
   answers l [] = []
   answers l (request ∷ rest) = answer l request ∷ answers (next l request) rest

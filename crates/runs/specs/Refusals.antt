@@ -12,6 +12,7 @@ most_rows = 1048576
 abbrev pub most_columns : ℕ
 most_columns = 255
 
+-- 11 at begin
 abbrev pub begin_refusal : ℕ → Option ℕ
 begin_refusal entries = cond (nat_lt most_rows entries) (Some 11) None
 
@@ -19,6 +20,7 @@ begin_refusal entries = cond (nat_lt most_rows entries) (Some 11) None
 abbrev pub unclaimed : Lent → ℕ
 unclaimed lent = lent.work - lent.claimed
 
+-- 11 to 16 of a column
 abbrev pub column_refusal : ℕ → ℕ → Column → Option (List ℕ) → Lent → Option ℕ
 column_refusal rows count c list lent =
     cond (nat_lt lent.entries rows) (Some 11)
@@ -28,6 +30,7 @@ column_refusal rows count c list lent =
     (cond (not (list_below (height c) list)) (Some 15)
     (cond (nat_lt (unclaimed lent) (column_need c)) (Some 16) None)))))
 
+-- 11, 14, 15 and 16 of a keep
 abbrev pub keep_refusal : ℕ → List ℕ → Lent → Option ℕ
 keep_refusal rows list lent =
     cond (nat_lt lent.entries rows) (Some 11)
@@ -35,11 +38,13 @@ keep_refusal rows list lent =
     (cond (not (all_below rows list)) (Some 15)
     (cond (nat_lt (unclaimed lent) (length list)) (Some 16) None)))
 
+-- 11 and 17 of a read
 abbrev pub read_refusal : ℕ → ℕ → ℕ → Option ℕ
 read_refusal rows row entries =
     cond (nat_lt entries rows) (Some 11)
     (cond (not (nat_lt row rows)) (Some 17) None)
 
+-- the first refusal that applies to a request, or none
 abbrev pub refusal : ℕ → ℕ → Request → Option ℕ
 refusal rows count (column c list lent) = column_refusal rows count c list lent
 refusal rows count (keep list lent) = keep_refusal rows list lent
@@ -56,5 +61,6 @@ granted count number (column c list lent) = accepted
 granted count number (keep list lent) = accepted
 granted count number (read k entries) = row_read (number k) count
 
+-- what is answered: the refusal, or what is granted
 abbrev pub reply : ℕ → ℕ → (ℕ → ℕ) → Request → Reply
 reply rows count number request = unless (refusal rows count request) refused (granted count number request)

@@ -12,6 +12,7 @@ abbrev pub earlier_met : List Met → List Met
 earlier_met [] = []
 earlier_met (m ∷ earlier) = earlier
 
+-- a row before its latest column
 abbrev pub earlier : Row → Row
 earlier r = record { origin = r.origin; entry = r.entry; met = earlier_met r.met }
 

@@ -22,13 +22,16 @@ fault_number Listed = 15
 fault_number Work = 16
 fault_number Row = 17
 
+-- the number of the refusal, or none
 abbrev pub fault_of : {T : Type 0} → Result T RunFault → Option ℕ
 fault_of (Ok _) = None
 fault_of (Err fault) = Some (fault_number fault)
 
+-- a new run with the entries that it is lent
 abbrev pub new_run : NewRun → List ℕ → State
 new_run run words = record { count = 0; rows = run.rows; words = words }
 
+-- a begun run with the entries that it is lent
 abbrev pub begun_run : BegunRun → List ℕ → State
 begun_run run words = record { count = run.count; rows = run.rows; words = words }
 
@@ -37,21 +40,26 @@ abbrev pub either_run : Result BegunRun (NewRun × RunFault) → List ℕ → St
 either_run (Ok run) words = begun_run run words
 either_run (Err back) words = new_run back.0 words
 
+-- what it answers to a first column
 abbrev pub either_reply : Result BegunRun (NewRun × RunFault) → Reply
 either_reply (Ok run) = accepted
 either_reply (Err back) = refused (fault_number back.1)
 
+-- what a call answers that gives nothing else
 abbrev pub done_reply : {T : Type 0} → Result T RunFault → Reply
 done_reply (Ok _) = accepted
 done_reply (Err fault) = refused (fault_number fault)
 
+-- what a read answers
 abbrev pub row_reply : Result RowRead RunFault → Reply
 row_reply (Ok read) = row_read read.number read.count
 row_reply (Err fault) = refused (fault_number fault)
 
+-- a node of an image's bytes
 abbrev pub column_of : List ℕ → ℕ → Column
 column_of bytes node = record { bytes = bytes; node = node }
 
+-- the numbers of a list that a caller lends, if there is one
 abbrev pub list_of : Option (Bor (List ℕ)) → Option (List ℕ)
 list_of None = None
 list_of (Some list) = Some list.now

@@ -17,6 +17,7 @@ pub record State : Type 0 where
 abbrev pub kept : List ℕ → List ℕ → List ℕ
 kept list words = map (slice_index words) list ++ drop (length list) words
 
+-- what is answered in a state
 abbrev pub told : State → Request → Reply
 told s request = reply s.rows s.count (slice_index s.words) request
 
@@ -26,6 +27,7 @@ module _ (ONE : List Write → ℕ) (SEED : ℕ → List Write → ℕ) where
   led_words first rows c list words =
       by_place (λ j e. number_of ONE SEED first e (slot c (met_at list j))) 0 (take rows words) ++ drop rows words
 
+  -- what an accepted call makes of a state: a column leads the words on and counts one, a keep has the listed rows, a read changes nothing
   abbrev pub taken : State → Request → State
   taken s (column c list lent) =
       record {
@@ -36,16 +38,16 @@ module _ (ONE : List Write → ℕ) (SEED : ℕ → List Write → ℕ) where
   taken s (keep list lent) = record { count = s.count; rows = length list; words = kept list s.words }
   taken s (read k entries) = s
 
+  -- a refused call changes nothing
   abbrev pub step : State → Request → State
   step s request = unless (refusal s.rows s.count request) (λ _. s) (taken s request)
 
+  -- one request after the other
   abbrev pub steps : State → List Request → State
   steps s [] = s
   steps s (request ∷ rest) = steps (step s request) rest
 
+  -- the answers to one request after the other
   abbrev pub replies : State → List Request → List Reply
   replies s [] = []
   replies s (request ∷ rest) = told s request ∷ replies (step s request) rest
-
-abbrev pub new_state : List ℕ → State
-new_state words = record { count = 0; rows = length words; words = words }
