@@ -1274,12 +1274,16 @@ def store(directories, part, text, checking):
     file.write_text(text + RUNS + after if part == 0 else before + RUNS + text)
 
 
+def begin():
+    """Tries the model; whether the file is to be checked, and the other words of the command line."""
+    model.self_test()
+    words = sys.argv[1:]
+    return "--check" in words, [word for word in words if word != "--check"]
+
+
 def main():
     """Works out all cases, and writes or checks them."""
-    words = sys.argv[1:]
-    checking = "--check" in words
-    words = [word for word in words if word != "--check"]
-    model.self_test()
+    checking, words = begin()
     cases_of_docs()
     cases_of_leaves()
     cases_of_empty_columns()

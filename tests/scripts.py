@@ -898,10 +898,7 @@ def runs_at_random():
 
 def main():
     """Tells all runs, and writes or checks them."""
-    words = sys.argv[1:]
-    checking = "--check" in words
-    words = [word for word in words if word != "--check"]
-    model.self_test()
+    checking, words = columns.begin()
     runs_of_kinds()
     runs_of_all_columns()
     runs_of_lent_words()
