@@ -21,6 +21,7 @@ three and 148 with four.
 
 import pathlib
 import sys
+from itertools import pairwise
 
 ROOT = pathlib.Path(__file__).resolve().parent.parent
 sys.path[:0] = [str(ROOT / "tools"), str(ROOT / "tests")]
@@ -243,11 +244,11 @@ admit(image([record(STRUCT, tab=112, cnt=2), record(STRUCT, tab=120, cnt=2), nul
 
 
 # ---------------------------------------------------------------------------
-def chain(structs, *last):
+def chain(structs, *last, rows=0):
     """Structs, each the parent of the node after it; their tables stand behind the records."""
     nodes = structs + len(last)
     tables = 4 + 36 * nodes
-    made = [record(STRUCT, tab=tables + 4 * n, cnt=1 if n + 1 < nodes else 0) for n in range(structs)]
+    made = [record(STRUCT, rows, tab=tables + 4 * n, cnt=1 if n + 1 < nodes else 0) for n in range(structs)]
     return made + list(last), children(*range(1, nodes))
 
 
@@ -727,6 +728,7 @@ slot(1, 3, "view 888 46554e637562652d312028414f2d373329")
 slot(2, 1, "number 8 1790002810")
 slot(3, 3, "float 4 80000000")
 line("image-file no-such.img", "unreadable no-such.img")
+line("image-file empty.img", "refused 1 0")  # no bytes at all
 slot(0, 0, "kind 11")  # and the example stays
 
 # ---------------------------------------------------------------------------
@@ -977,6 +979,26 @@ run("work 7", "ok")
 accepted("column 10")
 read_all()
 
+title("the largest need: below node 0 are 15 levels, each of the most rows")
+deep = [Nothing()]
+for _ in range(15):
+    deep.insert(0, Struct((deep[0],)))
+columns = [Column([slot] * MOST_ROWS) for slot in deep]
+for above, child in pairwise(columns):
+    above.children = [child]
+admit_columns(image(*chain(15, nulls(MOST_ROWS), rows=MOST_ROWS)), columns)
+accepted("begin 0 7")
+run("work 15728639", "ok")  # 15 x 1,048,576 and one less
+refused(16, f"column 0 list 0 {MOST_ROWS - 1}")
+accepted(f"column 1 list 0 {MOST_ROWS - 1}")
+run("work 15728640", "ok")
+accepted(f"column 0 list 0 {MOST_ROWS - 1}", "column 0 list 5 5")
+read_all()
+run("claimed 1", "ok")
+refused(16, "column 0 list 5 5")
+run("claimed 0", "ok")
+admit_columns(*fleet())
+
 title("an account that passes the work: what needs none is accepted, and nothing else")
 for work, claimed in [(7, 8), (0, 1), (7, 2**32), (7, U64), (0, U64), (7, U64 - 3), (MOST_ROWS, U64 - 4)]:
     accepted("begin 5 6 7")
@@ -1066,6 +1088,7 @@ run("words")
 accepted("column 0")
 slot(0, 1, f"number 8 {U64}")  # a slot that is asked for is none that is met
 line("image-file no-such.img", "unreadable no-such.img")
+line("image-file empty.img", "refused 1 0")  # no bytes at all
 read_all()
 admit_columns(*fleet())
 accepted("column 5")
@@ -1138,6 +1161,7 @@ def main():
     directory.mkdir(parents=True, exist_ok=True)
     (directory / "data").mkdir(exist_ok=True)
     (directory / "data" / "passes.img").write_bytes((ROOT / "examples" / "passes.img").read_bytes())
+    (directory / "data" / "empty.img").write_bytes(b"")
     (directory / "stdin").write_text("\n".join(lines).lstrip("\n") + "\n")
     (directory / "stdout").write_text("\n".join(answers) + "\n")
     print(f"{len(commands)} commands, {len(answers)} answers")

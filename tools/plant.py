@@ -1,22 +1,27 @@
 #!/usr/bin/env python3
 """Plants bugs in the code, one at a time, and notes whether the check refuses each.
 
-    tools/plant.py CRATE [MOST [SECONDS]]    at most MOST plants (30 if left out), a check SECONDS at most (600)
+    tools/plant.py [--every N] [--seconds S] [--list] CRATE..
 
-Every function with a body in crates/CRATE/src is gone through, line by line; contracts and ghost items are left
-alone. Where there are more places than MOST, they are taken at even distances. The tree is copied once, each plant is
-one line of the copy changed, and the crate is checked there. A line is printed for each:
+Every function with a body in crates/CRATE/src is gone through, line by line, and every constant; contracts and ghost
+items are left alone.
+Each N-th place is planted (each 3rd if left out), so that the sample is even over functions and kinds of bugs; N = 1
+takes all. --list prints the places and checks nothing. The tree is copied once, with what was proved of it, each plant
+is one line of the copy changed, and the function is checked there; if that is accepted, the whole crate. A check has S
+seconds at most (300 if left out). A line is printed for each:
 
-    refused     the check ends without a proof
+    refused     the check ends without a proof, the first error in the code
+    in proof    the same, the first error in a proof file, which may only not fit what it finds
     survived    the check accepts it: a hole in a contract, or a change that nobody can see
+    run         a program: the check accepts it, and what the program prints is wrong
     unbuilt     the compiler refuses it, so it shows nothing
     slow        the check had not ended in time, with a goal open that the right code has not
 """
 
+import argparse
 import re
 import shutil
 import subprocess
-import sys
 import tempfile
 from pathlib import Path
 
@@ -35,110 +40,222 @@ EXCHANGES = [
     (r" \+ 1\b", ""),
     (r" - 1\b", ""),
     (r" \+ (?=[a-z(])", " - "),
+    (r"\b(\w+\.len\(\))(?!\))", r"\1 + 1"),
     (r"\.min\(", ".max("),
     (r"\.max\(", ".min("),
+    (r"\.any\(", ".all("),
+    (r"\.all\(", ".any("),
     (r"\btrue\b", "false"),
     (r"\bfalse\b", "true"),
-    (r"\bfirst\b(?=[,)])", "!first"),
+    (r"(?<![\w.])((?:\w+\.)*first)\b(?=[,)]| \{)", r"!\1"),
     (r"\b0(?=[,;)\].])", "1"),
-    (r"\.swap\(", ".get("),
+    (r"\bif !(?=\w)", "if "),
+    (r"\bif (?=[a-z_.]+\([^=<>&|]*\) \{)", "if !"),
 ]
 NUMBER = re.compile(r"(?<![\w.#'\"])(\d[\d_]*)(?![\w.])")
 CALL = re.compile(r"\b(\w+)\(([^()]*)\)")
+STATEMENT = re.compile(r"\s+[\w.\[\]*]+(\.\w+\(.*\)\??| [-+*|^&]?= .*|\(.*\)\??);")
+
+
+def cases(text):
+    """The enums that a text declares: name to [(case, its shape)]."""
+    found = {}
+    for enum in re.finditer(r"^ *(?:pub(?:\(crate\))? )?enum (\w+)[^{]*\{\n(.*?)^ *\}", text, re.M | re.S):
+        found[enum[1]] = re.findall(r"^ +([A-Z]\w*)(\([^\n]*\)| \{[^\n]*)?,?$", enum[2], re.M)
+    return found
+
+
+def enums():
+    """All enums of the repository."""
+    found = {}
+    for file in sorted((ROOT / "crates").glob("*/src/**/*.rt")):
+        found.update(cases(file.read_text()))
+    return found
+
+
+def owner_of(header):
+    """What the check calls an impl: by its type, or by its type and trait."""
+    header = re.sub(r"<[^<>]*>", "", re.sub(r"<[^<>]*>", "", header))
+    parts = re.match(r"impl\s+(?:([\w:]+)\s+for\s+)?&?\s*([\w:]+)", header)
+    kind, trait = parts[2].split("::")[-1], (parts[1] or "").split("::")[-1]
+    return kind[0].upper() + kind[1:] + trait + "::"
 
 
 def bodies(text):
-    """The lines of function bodies: numbers from 0, behind the brace that opens each."""
-    lines = text.split("\n")
-    inside, depth, start = False, 0, None
-    for number, line in enumerate(lines):
+    """The lines of function bodies, behind the brace that opens each, and constants: (function, number from 0, line)."""
+    owner, inside, depth, start = "", None, 0, None
+    for number, line in enumerate(text.split("\n")):
         code = line.split("//")[0]
-        if not inside and re.match(r"\s*(pub(\(crate\))? )?fn \w", code):
-            inside, start = True, None
+        if re.match(r"impl\b", code):
+            owner = owner_of(code)
+        elif code == "}":
+            owner = ""
+        name = re.match(r"\s*(?:pub(?:\(crate\))? )?fn (\w+)", code)
+        if not inside and name:
+            inside, start = owner + name[1], None
         if not inside:
+            if re.match(r"\s*(?:pub(?:\(crate\))? )?const \w+:", code):
+                yield "", number, line
             continue
         clause = re.match(r"\s*(requires|ensures|ghost|#\[)", code)
         if start is None:
             if not clause and code.rstrip().endswith("{"):
                 start, depth = number, 1
             elif code.rstrip().endswith((";", "}")) and not clause:
-                inside = False
+                inside = None
             continue
         depth += code.count("{") - code.count("}")
         if depth <= 0:
-            inside = False
+            inside = None
         else:
-            yield number, line
+            yield inside, number, line
 
 
-def changes(line):
+def other_cases(code, known):
+    """One enum case for another of the same shape, the next of its enum."""
+    for place in re.finditer(r"\b(\w+)::([A-Z]\w*)\b", code):
+        declared = known.get(place[1], [])
+        shapes = dict(declared)
+        if place[2] not in shapes:
+            continue
+        alike = [case for case, shape in declared if shape == shapes[place[2]]]
+        other = alike[(alike.index(place[2]) + 1) % len(alike)]
+        if other != place[2]:
+            yield code[:place.start(2)] + other + code[place.end(2):]
+
+
+def exchanged_arguments(code):
+    """Two neighbouring arguments exchanged; where their types differ, the compiler refuses it."""
+    for place in CALL.finditer(code):
+        words = [word.strip() for word in place[2].split(",")]
+        for k in range(len(words) - 1):
+            if words[k] != words[k + 1] and words[k] and words[k + 1]:
+                swapped = words[:k] + [words[k + 1], words[k]] + words[k + 2:]
+                yield code[:place.start(2)] + ", ".join(swapped) + code[place.end(2):]
+
+
+def changes(line, known):
     """What can be planted in a line."""
     code = line.split("//")[0].rstrip()
     for wrong, right in EXCHANGES:
         for place in re.finditer(wrong, code):
-            yield code[:place.start()] + right + code[place.end():]
+            yield code[:place.start()] + place.expand(right) + code[place.end():]
     for place in NUMBER.finditer(code):
         value = int(place[1].replace("_", ""))
         if value > 1:
             yield code[:place.start()] + str(value + 1) + code[place.end():]
             yield code[:place.start()] + str(value - 1) + code[place.end():]
-    for place in CALL.finditer(code):
-        words = [word.strip() for word in place[2].split(",")]
-        if len(words) == 2 and words[0] != words[1]:
-            yield code[:place.start(2)] + f"{words[1]}, {words[0]}" + code[place.end(2):]
-    if re.fullmatch(r"\s+[\w.\[\]*]+(\.\w+\(.*\)| [-+*|^&]?= .*|\(.*\));", code):
+    yield from exchanged_arguments(code)
+    yield from other_cases(code, known)
+    if STATEMENT.fullmatch(code):
         yield ""
 
 
 def places(crate):
-    """(file, line number, the line, what is planted) for each that there is."""
+    """(file, function, line number, the line, what is planted) for each that there is."""
+    known = enums()
     for file in sorted((ROOT / "crates" / crate / "src").rglob("*.rt")):
-        for number, line in bodies(file.read_text()):
-            for planted in changes(line):
-                yield file.relative_to(ROOT), number, line, planted
+        for function, number, line in bodies(file.read_text()):
+            for planted in changes(line, known):
+                yield file.relative_to(ROOT), function, number, line, planted
+
+
+def functions(folder):
+    """The names by which the check knows the functions of a crate, which it proves first."""
+    said = subprocess.run(["rt", "check"], cwd=folder, capture_output=True, text=True).stdout
+    if "logic=proved" not in said:
+        raise SystemExit(f"{folder.name} is not proved as it stands")
+    return re.findall(r"^fn ([\w:]+): proved", said, re.M)
 
 
 def verdict(said):
     """What the check says of a plant."""
-    if "logic=proved" in said and "logic=not-proved" not in said:
+    alone = re.search(r"^only=(\d+) proved=(\d+)", said, re.M)
+    if "logic=proved" in said or alone and alone[1] == alone[2]:
         return "survived"
     if re.search(r"error\[", said):
         return "unbuilt"
-    return "refused"
+    first = re.search(r"^(src|proofs|specs)/\S+:\d+", said, re.M)
+    return "in proof" if first and first[1] != "src" else "refused"
 
 
-def check(folder, seconds):
-    """Checks a crate in the copy."""
+def runs_wrong(folder):
+    """Whether a program prints something else than it must."""
+    words = (folder / "args").read_text().split("\n") if (folder / "args").exists() else []
+    command = ["rt", "run", "--"] + [word for word in words if word]
+    with open(folder / "stdin") as told:
+        done = subprocess.run(command, cwd=folder, stdin=told, capture_output=True, text=True)
+    return done.stdout != (folder / "stdout").read_text()
+
+
+def checked(folder, seconds, *only):
+    """Checks a crate in the copy, or one function of it."""
     try:
-        done = subprocess.run(["rt", "check"], cwd=folder, capture_output=True, text=True, timeout=seconds)
+        done = subprocess.run(["rt", "check", *only], cwd=folder, capture_output=True, text=True, timeout=seconds)
     except subprocess.TimeoutExpired:
-        return "slow"
-    return verdict(done.stdout + done.stderr)
+        return "slow", ""
+    said = done.stdout + done.stderr
+    return verdict(said), said
+
+
+def check(folder, known, function, seconds):
+    """Checks the function, then the crate where that is accepted, and then runs it where it is a program."""
+    named = [name for name in known if name == function or name.endswith("::" + function)]
+    if function and len(named) == 1:
+        outcome, said = checked(folder, seconds, "--only", named[0])
+        if outcome != "survived":
+            return outcome, said
+    outcome, said = checked(folder, 2 * seconds)
+    if outcome == "survived" and (folder / "stdin").exists() and runs_wrong(folder):
+        outcome = "run"
+    return outcome, said
+
+
+def plant(copy, crate, known, place, seconds):
+    """Plants one bug in the copy, and takes it out again."""
+    file, function, number, _, planted = place
+    right = (copy / file).read_text()
+    lines = right.split("\n")
+    lines[number] = planted
+    (copy / file).write_text("\n".join(lines))
+    try:
+        return check(copy / "crates" / crate, known, function, seconds)
+    finally:
+        (copy / file).write_text(right)
+
+
+def told(place):
+    """A place and what is planted there, on one line."""
+    file, function, number, line, planted = place
+    return f"{file}:{number + 1} {function}: {line.strip()}  ->  {planted.strip() or '(dropped)'}"
 
 
 def main():
-    if len(sys.argv) < 2:
-        sys.exit(__doc__)
-    crate = sys.argv[1]
-    most = int(sys.argv[2]) if len(sys.argv) > 2 else 30
-    seconds = int(sys.argv[3]) if len(sys.argv) > 3 else 600
-    found = list(places(crate))
-    taken = found if len(found) <= most else [found[k * len(found) // most] for k in range(most)]
-    counts = {}
+    parser = argparse.ArgumentParser(description=__doc__, formatter_class=argparse.RawDescriptionHelpFormatter)
+    parser.add_argument("--every", type=int, default=3)
+    parser.add_argument("--seconds", type=int, default=300)
+    parser.add_argument("--list", action="store_true")
+    parser.add_argument("--logs", type=Path, help="a folder for what each check says")
+    parser.add_argument("crate", nargs="+")
+    asked = parser.parse_args()
     with tempfile.TemporaryDirectory() as folder:
         copy = Path(folder) / "tree"
-        shutil.copytree(ROOT, copy, ignore=shutil.ignore_patterns(".git", "out", "target"))
-        for file, number, line, planted in taken:
-            right = (copy / file).read_text()
-            lines = right.split("\n")
-            lines[number] = planted
-            (copy / file).write_text("\n".join(lines))
-            outcome = check(copy / "crates" / crate, seconds)
-            (copy / file).write_text(right)
-            counts[outcome] = counts.get(outcome, 0) + 1
-            print(f"{outcome:9} {file}:{number + 1}: {line.strip()}  ->  {planted.strip() or '(dropped)'}", flush=True)
-    told = ", ".join(f"{count} {outcome}" for outcome, count in sorted(counts.items()))
-    print(f"{crate}: {len(taken)} of {len(found)} places planted: {told}")
+        shutil.copytree(ROOT, copy, ignore=shutil.ignore_patterns(".git"))
+        for crate in asked.crate:
+            found = list(places(crate))
+            known = [] if asked.list else functions(copy / "crates" / crate)
+            counts = {}
+            for k, place in enumerate(found[::asked.every]):
+                if asked.list:
+                    print(told(place))
+                    continue
+                outcome, said = plant(copy, crate, known, place, asked.seconds)
+                counts[outcome] = counts.get(outcome, 0) + 1
+                print(f"{outcome:9} {told(place)}", flush=True)
+                if asked.logs:
+                    (asked.logs / f"{crate}-{k}.log").write_text(f"{told(place)}\n{said}")
+            numbers = ", ".join(f"{count} {outcome}" for outcome, count in sorted(counts.items()))
+            print(f"{crate}: {len(found[::asked.every])} of {len(found)} places planted: {numbers}", flush=True)
 
 
 if __name__ == "__main__":
