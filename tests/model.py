@@ -296,6 +296,56 @@ WORKED = [
     (Z, "first", 0, View(b"a"), 5984138530507203056),
 ]
 
+TWELVE = b"abcdefghijkl"
+THIRTEEN = b"abcdefghijklm"
+TWO = Number(1, 2)
+ENTRIES = Map(((BYTE, Null()), (TWO, Null())))
+
+# further numbers of DIFFERENCES.md, of which tests/columns.py makes no images
+FURTHER = [
+    # what a seed replaces
+    (SipHash24(0, 0), "later", 1, BYTE, 14108459189511270900),
+    (SipHash24(5, 0), "later", 1, BYTE, 14108459189511270900),
+    (SipHash24(0, 1), "later", 1, BYTE, 7845141156912661020),
+    (STANDARD, "first", 7, Struct(()), 23532),
+    (REFERENCE, "first", 7, Struct(()), 23532),
+    # byte order
+    (Z, "first", 0, Number(2, 1), 956575116354345),
+    # "initializes"
+    (Z, "first", 7, Sequence((BYTE,)), 1099511651743),
+    (Z, "first", 0, Sequence((BYTE,)), 1099511651484),
+    # "for all columns besides the first", and views
+    (Z, "later", 1, Float(2, 0x3C00), 916992697738749),
+    (Z, "later", 1, View(THIRTEEN), 4269486303836246239),
+    (Z, "first", 0, View(TWELVE), 3938342635625432200),
+    (Z, "first", 0, View(THIRTEEN), 2194587453236361088),
+    # "into a fresh hasher"
+    (Z, "later", 5, Text(b"a"), 3426354210245051714),
+    (Z, "later", 7, Struct(()), 23532),
+    # structs, maps, lists
+    (Z, "first", 0, Struct((BYTE, BYTE)), 955475604749407),
+    (Z, "first", 0, Struct((TRUE, TRUE)), 41781441918564),
+    (Z, "first", 7, ENTRIES, 42880954394186),
+    (Z, "first", 0, Sequence((Number(2, 258),)), 1914249744360174),
+    # "stable hash"
+    (STANDARD, "first", 7, Nothing(), 12478008331234465636),
+    # one value, several numbers
+    (Z, "first", 0, Text(THIRTEEN), 8408913936696102252),
+    (Z, "first", 0, Binary(THIRTEEN), 2194587453236361088),
+    (Z, "later", 1, Binary(THIRTEEN), 7412759474907177066),
+    (Z, "first", 0, Number(4, 1), 11527715348014283921),
+    (Z, "first", 0, Number(8, 1), 2232315406967589409),
+    (Z, "first", 0, Float(4, 0x3F800000), 122510884125933453),
+    (Z, "first", 0, Float(8, 0x3FF0000000000000), 229612112785517341),
+    (Z, "first", 0, ENTRIES, 42880954384603),
+    (Z, "first", 0, Map(ENTRIES.entries[::-1]), 82463373000199),
+    # NaN
+    (Z, "first", 0, Float(2, 0x7E00), 138538465154586),
+    (Z, "first", 0, Float(2, 0x7E01), 985162418687831),
+    # a map with a null key
+    (Z, "first", 0, Map(((Null(), BYTE),)), 1099511651484),
+]
+
 
 def self_test():
     """Tries the published hashes and every number of the docs."""
@@ -307,7 +357,7 @@ def self_test():
                               (8, "6224939a79f5f593"), (15, "e545be4961ca29a1")]:
         assert REFERENCE.one(bytes(range(length))).to_bytes(8, "little").hex() == published
 
-    for state, turn, e, slot, expected in WORKED:
+    for state, turn, e, slot, expected in WORKED + FURTHER:
         got = number(state, turn == "first", e, slot)
         assert got == expected, (state, turn, e, slot, expected, got)
     # where first and later are told to make no difference
@@ -324,8 +374,30 @@ def self_test():
     assert combine(one[View(b"a")], 1) == 52196744251916954
     assert combine(one[View(b"")], 1) == 23274
     assert combine(0, 0) == 23273 and combine(0, 7) == 23280 and combine(7, 0) == 23532
+    # and those that DIFFERENCES.md gives for what comments of the Rust say
+    byte, two, thirteen = one[BYTE], Z.one(writes(TWO)), Z.one(writes(View(THIRTEEN)))
+    assert combine(Z.one(writes(Float(2, 0x3C00))), 1) == 2440915814651694
+    assert combine(Z.one(writes(Nothing())), 7) == 2250354181208841189
+    assert Z.one(writes(Number(8, 1)) + writes(BYTE)) == 10622395432008610912
+    assert STANDARD.one(writes(Number(8, 1)) + writes(BYTE)) == 5952120282854798687
+    assert Z.seed(5, writes(TRUE)) == 4398046512844
+    assert Z.seed(5, writes(Text(b"a"))) == 95418917612112713
+    assert Z.seed(7, writes(Nothing())) == 13826059866957048678
+    assert combine(thirteen, 1) == 7412759474907177066
+    assert combine(byte, 7) == 40681930267087
+    assert Z.one(writes(Binary(TWELVE))) == 3641203081541969480
+    long_view = (13).to_bytes(4, "little") + b"abcd" + bytes(8)
+    assert Z.one(long_view + writes(Binary(THIRTEEN))) == 10158653400184694979
+    assert combine(0, combine(byte, byte)) == 41781441918564
+    assert two == 2199023256422 and combine(7, combine(byte, two)) == 42880953547034
+    assert combine(0, Z.one(b"\x02")) == 2199023279695
+    # of images that are refused, and of other machines
+    assert Z.one(long_view) == 16538248302712736117
+    assert Z.one((1).to_bytes(4, "little") + b"a\x01" + bytes(10)) == 9495083633355416571
+    assert Z.one((1).to_bytes(4, "little") + b"a") == 914021999637957584
+    assert Z.one(b"\x00\x01") == 1099511628211
 
 
 if __name__ == "__main__":
     self_test()
-    print(f"{len(WORKED)} numbers of the docs hold")
+    print(f"{len(WORKED) + len(FURTHER)} numbers of the docs hold")
