@@ -23,7 +23,7 @@ float w b = Word w (float_bits w b) ∷ []
 abbrev pub seeded_float : ℕ → ℕ → List Write
 seeded_float w b = Bytes (le_bytes w (float_bits w b)) ∷ []
 
--- Text: its bytes, and the byte 255, which no UTF-8 text holds.
+-- Text: its bytes, and the byte 255, which UTF-8 never has.
 abbrev pub text : List ℕ → List Write
 text bs = Bytes bs ∷ Word 1 255 ∷ []
 

@@ -8,8 +8,8 @@ ghost use Rattle.hash_state.specs.View.{view};
 use crate::combine::combine_hashes;
 use crate::hasher::{BuildHasher, HashState, Hasher};
 
-// Two truth values, as `later` of the definitions takes one. What a later column does: it seeds a state with its entry and tells it the value, or it combines the value's own
-// hash with its entry.
+// What a later column does with a value: it seeds a state with its entry and tells it the value, or it combines the
+// value's own hash with its entry. They are truth values, since `later` of the definitions takes one.
 const SEEDS: bool = true;
 
 const COMBINES: bool = false;

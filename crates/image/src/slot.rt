@@ -17,7 +17,7 @@ use layout::column::Column;
 use layout::data_type::DataType;
 
 // The bytes between a row's offset and the next.
-pub fn span_at<'a>(column: &Column<'a>, width: Width, row: u32) -> Part<'a>
+fn span_at<'a>(column: &Column<'a>, width: Width, row: u32) -> Part<'a>
     requires { SpanThere width column.now.bytes.now column.now.record (column.now.record.start + row) }
     ensures place { result.place ≡ column.now.record.b + offset width column.now.bytes.now column.now.record (column.now.record.start + row) }
     ensures bytes { result.bytes.now ≡ part column.now.bytes.now (column.now.record.b + offset width column.now.bytes.now column.now.record (column.now.record.start + row)) (span width column.now.bytes.now column.now.record (column.now.record.start + row)) }
