@@ -1,9 +1,9 @@
 -- The steps of the loop that reads pairs of digits.
-use Rattle.std.proofs.Common.{◌≡◌, ℕ, zero, suc, ◌+◌, ◌-◌, ◌*◌, ◌<◌, ◌≤◌, ◌/◌, ◌%◌, ◌==◌, Bool, true, false, List, [], ◌∷◌, ◌++◌, length, get_or, take, drop, Some, None, Option, sym, refl, ap, ◌∙◌, append_assoc, append-nil, arith, take_all}
+use Rattle.std.proofs.Common.{◌≡◌, ℕ, zero, suc, ◌+◌, ◌*◌, ◌<◌, ◌≤◌, ◌/◌, ◌%◌, ◌==◌, Bool, true, false, List, [], ◌∷◌, ◌++◌, length, get_or, drop, Some, None, Option, sym, refl, ap, ◌∙◌, append_assoc, append-nil, arith}
 use Rattle.std.specs.Bool.{then_some}
 use Rattle.std.specs.Option.{option_map}
 use Rattle.std.specs.Simd.{first_chunks}
-use Rattle.text.specs.Text.{both, byte_value, bytes_value, number_value, numeral_value}
+use Rattle.text.specs.Text.{both, byte_value, bytes_value}
 
 -- pair i of a text, and what follows it
 pair_at : (n i : ℕ) (ds : List ℕ) → i < n → 2 * n ≤ length ds → drop (2 * i) ds ≡ get_or (get_or (first_chunks 2 n ds) i []) 0 0 ∷ get_or (get_or (first_chunks 2 n ds) i []) 1 0 ∷ drop (2 * (i + 1)) ds
@@ -55,12 +55,3 @@ pairs_end ds i rest acc all r n =
 pub option_map-then_some : {A B : Type 0} (f : A → B) (b : Bool) (x : A) → option_map f (then_some b x) ≡ then_some b (f x)
 option_map-then_some f true x = refl
 option_map-then_some f false x = refl
-
--- a word of hexadecimal digits
-pub word_hex : (w : List ℕ) → 2 ≤ length w → get_or w 0 0 ≡ 48 → get_or w 1 0 ≡ 120 → number_value w ≡ numeral_value 16 (take (length w - 2) (drop 2 w))
-word_hex [] h first second = absurd (omega arith)
-word_hex (a ∷ []) h first second = absurd (omega arith)
-word_hex (a ∷ b ∷ more) h first second =
-    ap (λ (n : ℕ). number_value (n ∷ b ∷ more)) first
-    ∙ ap (λ (n : ℕ). number_value (48 ∷ n ∷ more)) second
-    ∙ ap (λ (l : List ℕ). numeral_value 16 l) (sym (take_all (length (a ∷ b ∷ more) - 2) more (omega arith)))
