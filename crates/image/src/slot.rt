@@ -1,5 +1,5 @@
 // The slot reader: an admitted image is read without a test.
-ghost use Rattle.std.specs.Prelude.{◌≡◌, ℕ, ◌+◌, ◌*◌, ◌<◌, ◌≤◌, true, false, ◌&&◌, length};
+ghost use Rattle.std.specs.Prelude.{◌≡◌, ℕ, ◌+◌, ◌*◌, ◌≤◌, true, false, ◌&&◌, length};
 ghost use Rattle.image.specs.Levels.{DeepEnough};
 ghost use Rattle.image.specs.Read.{offset, part, span, typed_slot, unmarked, view_bytes_place};
 ghost use Rattle.image.specs.Seams.{Readable, SpanThere};
@@ -12,7 +12,7 @@ ghost use Rattle.layout.specs.Views.{view_length, view_place};
 
 use crate::place::Image;
 use crate::value::{Part, SlotFault, SlotValue};
-use layout::bytes::{Native, Width, bit_at, element_at};
+use layout::bytes::{Native, Width, bit_at};
 use layout::column::Column;
 use layout::data_type::DataType;
 
