@@ -3,8 +3,7 @@
 
 ghost use Rattle.std.specs.Prelude.{◌≡◌, ◌<◌, Some};
 ghost use Rattle.image.specs.Values.{node_record};
-ghost use Rattle.layout.specs.Records.{nodes, record_at};
-ghost use Rattle.summary.specs.Nulls.{count_below, is_null, nulls_of};
+ghost use Rattle.summary.specs.Nulls.{is_null, nulls_of};
 
 use image::place::Image;
 use layout::column::Column;
