@@ -1,14 +1,12 @@
 -- The rows of a leaf, and the words that they make.
 use Rattle.std.specs.Prelude.{◌≡◌, ℕ, ◌+◌, Bool, true, false, List, [], ◌∷◌, length, Some, None, Option, slice_index}
 use Rattle.std.specs.Borrow.{Bor}
-use Rattle.layout.specs.declared.bytes.Width.{Width}
 use Rattle.layout.specs.declared.record.Record.{Record}
 use Rattle.layout.specs.declared.data_type.DataType.{DataType}
 use Rattle.layout.specs.declared.data_type.DataType.TheVariants.{Null, Boolean, Number, Float, Utf8, Binary, FixedSizeBinary, View, Dictionary, Struct, List as ListOf, ListView, Map, FixedSizeList, RunEnd}
 use Rattle.layout.specs.Nodes.{HoldsBit, reads_nulls}
 use Rattle.layout.specs.Views.{view_place}
 use Rattle.admission.specs.Rejections.{bad_view}
-use Rattle.admission.specs.Seams.{ElementThere}
 use Rattle.image.specs.Seams.{Readable}
 
 -- each word by its place, counted from k
@@ -65,7 +63,3 @@ Padded (RunEnd w) bytes r row = Unit {0}
 -- what can be read of a row
 abbrev pub LeafRow : List ℕ → DataType → Record → ℕ → Type 0
 LeafRow bytes t r row = (reads_nulls t ≡ true → HoldsBit bytes r row) × Readable t bytes r row × Padded t bytes r row
-
--- what can be read of a row that holds a number of one width
-abbrev pub ValueRow : Width → List ℕ → Record → ℕ → Type 0
-ValueRow w bytes r row = HoldsBit bytes r row × ElementThere w bytes r.a (r.start + row)

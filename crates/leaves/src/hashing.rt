@@ -1,5 +1,5 @@
 // The loop over entries, one for every kind of column.
-ghost use Rattle.std.specs.Prelude.{◌≡◌, ℕ, ◌+◌, ◌^◌, ◌<◌, ◌&&◌, true, length};
+ghost use Rattle.std.specs.Prelude.{◌≡◌, ℕ, ◌+◌, ◌^◌, ◌<◌, length};
 ghost use Rattle.image.specs.Read.{typed_slot};
 ghost use Rattle.image.specs.Slot.{Slot};
 ghost use Rattle.leaves.specs.Rows.{LeafRow, RowsFor, by_place, row_of};

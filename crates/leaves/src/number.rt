@@ -1,5 +1,5 @@
 // Columns of numbers and floats of one width: one load for one value.
-ghost use Rattle.std.specs.Prelude.{◌≡◌, ◌+◌, true, refl};
+ghost use Rattle.std.specs.Prelude.{◌≡◌, ◌+◌, refl};
 ghost use Rattle.admission.specs.Seams.{ElementThere};
 ghost use Rattle.layout.specs.Bytes.{wide};
 ghost use Rattle.layout.specs.Nodes.{element};
