@@ -1,6 +1,5 @@
 -- A column's children, one after the other over one region.
-use Rattle.std.proofs.Common.{◌≡◌, ℕ, zero, suc, ◌+◌, ◌<◌, ◌≤◌, Bool, true, false, cond, eqb, List, length, get_or, sym, refl, ap, ◌∙◌, add-one, arith}
-use Rattle.std.proofs.lemmas.Bool.{ne_eqb}
+use Rattle.std.proofs.Common.{◌≡◌, ℕ, zero, suc, ◌+◌, ◌<◌, ◌≤◌, Bool, true, false, cond, List, length, get_or, sym, refl, ap, ◌∙◌, add-one, arith}
 use Rattle.layout.specs.Nodes.{child}
 use Rattle.layout.specs.Records.{nodes, record_at}
 use Rattle.admission.specs.FirstFault.{sound}
@@ -19,10 +18,6 @@ use Rattle.columns.proofs.Meaning.{did_then, leaf_slot, opened_did}
 use Rattle.columns.proofs.Nodes.{at_node, image_of, of_node}
 use Rattle.columns.proofs.Numbers.{column_number, complete_did, typed_within}
 use Rattle.columns.proofs.Typed.{passed}
-
-pub first_is_0 : (s : ℕ) → eqb s 0 ≡ is_first s
-first_is_0 zero = refl
-first_is_0 (suc s) = ne_eqb (suc s) 0 (λ e. omega arith)
 
 -- the job of a child's rows, over the words at a place
 abbrev pub job_of : ℕ → ℕ → ℕ → ℕ → Bool → Job

@@ -167,26 +167,3 @@ module _ {J F W : Type 0} (P : Plan J F W) where
         let same = S.same in
         let none : pending P L fs d w' ≡ w' = rw z in
         cc
-
-    -- what holds of the child that is taken up
-    pub child_ok : P.stage top < P.kids (P.job top) → P.Ok (P.child (P.job top) (P.stage top))
-    child_ok l = fits_ok _ _ (fits_child (L - d) (P.job top) (P.stage top) S.here l)
-
-    -- the frame in hand may stand in the array, at d
-    pub stands_slot : w ≡ w' → Stands P L (set fs d top) d (get_or (set fs d top) d P.none) w' answer
-    stands_slot e =
-        let lt : d < length fs = omega (arith, S.slots, S.deep) in
-        let same = S.same in
-        rw (get_or-set_same fs d top P.none lt, ← e)
-        (stands L (set fs d top) d top w answer (length-set fs d top ∙ S.slots) S.here
-        (λ i h. let ne : i ≢ d = omega arith in rw (get_or-set_other fs d i top P.none) (S.below i h))
-        (pending_set L fs d d top _ (omega arith) ∙ S.same))
-
-    pub left_slot : left P L (set fs d top) d (get_or (set fs d top) d P.none) ≡ left P L fs d top
-    left_slot =
-        let lt : d < length fs = omega (arith, S.slots, S.deep) in
-        let a = waiting_set L fs d d top (omega arith) in
-        rw (get_or-set_same fs d top P.none lt, a)
-
-    pub room_push : P.stage top < P.kids (P.job top) → d + 1 < L
-    room_push l = let p = fits_some _ _ (fits_child (L - d) (P.job top) (P.stage top) S.here l) in omega arith

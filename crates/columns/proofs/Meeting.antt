@@ -10,10 +10,6 @@ pub rows_for : (n : ℕ) (list : Option (Bor (List ℕ))) → met_rows n list �
 rows_for n None listed = tt
 rows_for n (Some list) listed = listed
 
-pub met_all : (rows n : ℕ) (list : Option (Bor (List ℕ))) → n ≡ met_rows rows list → met_rows n list ≡ n
-met_all rows n None e = refl
-met_all rows n (Some list) e = sym e
-
 -- without a list, rows one after the other end with the last that is met
 pub span_inside : (rows lo n : ℕ) (list : Option (Bor (List ℕ))) → ((x : Bor (List ℕ)) → list ≢ Some x) → lo ≤ rows → ((j : ℕ) → j < n → row_of lo list j < rows) → lo + n ≤ rows
 span_inside rows lo zero list none low there = omega arith

@@ -25,9 +25,6 @@ most_bound f zero limit each = omega arith
 most_bound f (suc n) limit each = omega (arith, most_bound f n limit (λ k l. each k (omega arith)), each n (omega arith))
 
 module _ (bytes : List ℕ) (is-sound : sound bytes ≡ true) where
-  count : ℕ → ℕ
-  count node = child_count (data_type (record_at bytes node)) (record_at bytes node)
-
   -- a child is there, and lower
   child_lower : (h node k : ℕ) → higher bytes (suc h) node ≡ false → node < nodes bytes → k < child_count (data_type (record_at bytes node)) (record_at bytes node)
       → (child bytes (record_at bytes node) k < nodes bytes) × (higher bytes h (child bytes (record_at bytes node) k) ≡ false)

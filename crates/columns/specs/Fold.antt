@@ -82,21 +82,3 @@ Uses (ListView w) bytes r at P = (k : ℕ) → k < element w bytes r.b at → P 
 Uses Map bytes r at P = (k : ℕ) → k < span Four bytes r at → P (offset Four bytes r at + k)
 Uses (FixedSizeList p) bytes r at P = (k : ℕ) → k < p → P (p * at + k)
 Uses (RunEnd w) bytes r at P = P (run_of w bytes r at)
-
--- whether a row of a type refers to one child row
-abbrev pub refers : DataType → Bool
-refers Null = false
-refers Boolean = false
-refers (Number w) = false
-refers (Float w) = false
-refers (Utf8 w) = false
-refers (Binary w) = false
-refers (FixedSizeBinary p) = false
-refers View = false
-refers (Dictionary w signed) = true
-refers Struct = false
-refers (ListOf w) = false
-refers (ListView w) = false
-refers Map = false
-refers (FixedSizeList p) = false
-refers (RunEnd w) = true

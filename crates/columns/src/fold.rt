@@ -1,10 +1,10 @@
 // The folds of child rows' numbers into an entry: each `hash_..` function is the body of the loop in the Rust's function of
 // its name, for one element that is not marked null. What each takes differs, so the parameters go on one by one.
-ghost use Rattle.std.specs.Prelude.{◌≡◌, ◌+◌, ◌*◌, ◌^◌, ◌<◌, ◌≤◌, false, cond, length, if◌then◌else◌, ◌==◌, nat_eq};
+ghost use Rattle.std.specs.Prelude.{◌≡◌, ◌+◌, ◌*◌, ◌^◌, ◌<◌, false, cond, length, if◌then◌else◌, ◌==◌, nat_eq};
 ghost use Rattle.admission.specs.Seams.{ElementThere};
 ghost use Rattle.columns.specs.Fold.{combined_all, referred};
 ghost use Rattle.columns.specs.Jobs.{kids, standing};
-ghost use Rattle.columns.specs.Seams.{OffsetsThere, RunsThere, Within};
+ghost use Rattle.columns.specs.Seams.{OffsetsThere, Within};
 ghost use Rattle.hash_state.specs.Combine.{C};
 ghost use Rattle.image.specs.Read.{offset, run_of, span};
 ghost use Rattle.layout.specs.Nodes.{child, child_rows, element};

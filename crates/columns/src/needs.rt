@@ -1,8 +1,8 @@
 // How many words of work a node needs.
-ghost use Rattle.std.specs.Prelude.{◌≡◌, ℕ, ◌+◌, ◌<◌, ◌≤◌, slice_index};
+ghost use Rattle.std.specs.Prelude.{◌≡◌, ℕ, ◌<◌, ◌≤◌, slice_index};
 ghost use Rattle.columns.specs.Column.{node_need};
 ghost use Rattle.columns.specs.Jobs.{kids, most, need, needs_of};
-ghost use Rattle.layout.specs.Nodes.{child, child_rows};
+ghost use Rattle.layout.specs.Nodes.{child};
 ghost use Rattle.layout.specs.Records.{nodes};
 
 use crate::node::Node;
