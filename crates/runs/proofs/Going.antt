@@ -1,6 +1,6 @@
 -- What is known of a call that is not refused.
-use Rattle.std.proofs.Common.{◌≡◌, ℕ, ◌<◌, ◌≤◌, Bool, true, false, cond, not, ◌||◌, ◌==◌, List, [], ◌∷◌, length, Some, None, Option, refl, sym, true≢false, le_trans, ltb-true, ltb-false, lt-ltb, eqb-true}
-use Rattle.std.proofs.lemmas.Bool.{and_parts}
+use Rattle.std.proofs.Common.{◌≡◌, ℕ, ◌<◌, ◌≤◌, Bool, true, false, cond, ◌==◌, List, [], ◌∷◌, length, Some, None, Option, refl, sym, le_trans, ltb-true, ltb-false, lt-ltb, eqb-true}
+use Rattle.std.proofs.lemmas.Bool.{and_parts, not-false, or_parts}
 use Rattle.std.proofs.lemmas.Option.{none-some}
 use Rattle.std.specs.Cmp.Derive.{both_true}
 use Rattle.runs.specs.declared.call.Lent.{Lent}
@@ -11,14 +11,6 @@ use Rattle.runs.specs.Refusals.{column_refusal, keep_refusal, most_columns, most
 passed : (b : Bool) (n : ℕ) (rest : Option ℕ) → cond b (Some n) rest ≡ None → (b ≡ false) × (rest ≡ None)
 passed true n rest e = absurd (none-some n (sym e))
 passed false n rest e = (refl, e)
-
-not_false : (b : Bool) → not b ≡ false → b ≡ true
-not_false true e = refl
-not_false false e = absurd (true≢false e)
-
-neither : (a b : Bool) → (a || b) ≡ false → (a ≡ false) × (b ≡ false)
-neither true b e = absurd (true≢false e)
-neither false b e = (refl, e)
 
 pub record ColumnGoes (rows count : ℕ) (c : Column) (list : Option (List ℕ)) (lent : Lent) : Type 0 where
   pub room : rows ≤ lent.entries
@@ -38,9 +30,9 @@ column_goes rows count c list lent e =
     let h = passed _ 16 _ g.1 in
     record {
       room = ltb-false _ _ a.0;
-      there = not_false _ d.0;
-      as_many = eqb-true _ _ (not_false _ f.0);
-      below = not_false _ g.0;
+      there = not-false _ d.0;
+      as_many = eqb-true _ _ (not-false _ f.0);
+      below = not-false _ g.0;
       work = ltb-false _ _ h.0;
       one_more = b.0;
     }
@@ -58,12 +50,12 @@ keep_goes rows list lent e =
     let b = passed _ 14 _ a.1 in
     let d = passed _ 15 _ b.1 in
     let f = passed _ 16 _ d.1 in
-    let n = neither _ _ b.0 in
+    let n = or_parts _ _ b.0 in
     record {
       room = ltb-false _ _ a.0;
       fits = ltb-false _ _ n.0;
       few = ltb-false _ _ n.1;
-      below = not_false _ d.0;
+      below = not-false _ d.0;
       work = ltb-false _ _ f.0;
     }
 
@@ -71,7 +63,7 @@ pub read_goes : (rows row entries : ℕ) → read_refusal rows row entries ≡ N
 read_goes rows row entries e =
     let a = passed _ 11 _ e in
     let b = passed _ 17 _ a.1 in
-    (ltb-false _ _ a.0, ltb-true _ _ (not_false _ b.0))
+    (ltb-false _ _ a.0, ltb-true _ _ (not-false _ b.0))
 
 pub all_below_more : (a b : ℕ) (list : List ℕ) → a ≤ b → all_below a list ≡ true → all_below b list ≡ true
 all_below_more a b [] h e = refl

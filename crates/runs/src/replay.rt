@@ -1,5 +1,5 @@
 // A list of calls of one run, made one after the other.
-ghost use Rattle.std.specs.Prelude.{◌≡◌, ℕ, ◌<◌, ◌≤◌, List, [], IfOk, IfErr, MatchOption, drop, length, map, min, slice_index_or, take};
+ghost use Rattle.std.specs.Prelude.{◌≡◌, ℕ, ◌<◌, ◌≤◌, List, IfOk, IfErr, MatchOption, drop, length, map, min, take};
 ghost use Rattle.hash_state.specs.Writes.{Write};
 ghost use Rattle.runs.specs.Calls.{Made, all_spared, bytes_at, lent_of, made, reply_of, request_of, requests_of, spared, stage_run};
 ghost use Rattle.runs.specs.Lasting.{Lasting, begun_state};
