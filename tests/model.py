@@ -299,10 +299,40 @@ WORKED = [
 TWELVE = b"abcdefghijkl"
 THIRTEEN = b"abcdefghijklm"
 TWO = Number(1, 2)
+MIXED = Struct((BYTE, TRUE, BYTE))
+PAIR = Sequence((BYTE, TWO))
 ENTRIES = Map(((BYTE, Null()), (TWO, Null())))
 
-# further numbers of DIFFERENCES.md, of which tests/columns.py makes no images
+# further numbers of the docs, of which tests/columns.py makes no images
 FURTHER = [
+    # ROW_NUMBERS.md, the worked numbers of each kind
+    (Z, "first", 7, Nothing(), 11527715348014283921),
+    (Z, "later", 7, Nothing(), 2250354181208841189),
+    (Z, "first", 7, TRUE, 1099511628211),
+    (Z, "first", 7, Number(2, 1), 956575116354345),
+    (Z, "later", 1, Number(4, 1), 0),
+    (Z, "first", 7, Float(2, 0x3C00), 65970697692660),
+    (Z, "later", 1, Float(2, 0x3C00), 916992697738749),
+    (Z, "first", 7, Text(b"a"), 92604167844460228),
+    (Z, "later", 5, Text(b"a"), 3426354210245051714),
+    (Z, "first", 7, Binary(b"a"), 10622430616380713664),
+    (Z, "later", 5, Binary(b"a"), 5648307258185844910),
+    (Z, "first", 7, View(b"a"), 5984138530507203056),
+    (Z, "later", 1, View(b"a"), 17191611703643831057),
+    (Z, "first", 7, View(TWELVE), 3938342635625432200),
+    (Z, "later", 1, View(TWELVE), 6088072389479637981),
+    (Z, "first", 7, View(THIRTEEN), 2194587453236361088),
+    (Z, "later", 1, View(THIRTEEN), 4269486303836246239),
+    (Z, "first", 7, Refer(Null()), 7),
+    (Z, "later", 7, Refer(Null()), 7),
+    (Z, "first", 7, Refer(BYTE), 1099511628211),
+    (Z, "later", 1, Refer(BYTE), 40681930267081),
+    (Z, "first", 7, MIXED, 61937689033215034),
+    (Z, "later", 7, MIXED, 61937689033215034),
+    (Z, "first", 7, PAIR, 42880954394186),
+    (Z, "later", 7, PAIR, 42880954394186),
+    (Z, "first", 7, Map(((BYTE, TWO),)), 954376093121455),
+    (Z, "later", 7, Map(((BYTE, TRUE), (TWO, Null()))), 1548112374276146),
     # what a seed replaces
     (SipHash24(0, 0), "later", 1, BYTE, 14108459189511270900),
     (SipHash24(5, 0), "later", 1, BYTE, 14108459189511270900),
@@ -314,13 +344,10 @@ FURTHER = [
     # "initializes"
     (Z, "first", 7, Sequence((BYTE,)), 1099511651743),
     (Z, "first", 0, Sequence((BYTE,)), 1099511651484),
-    # "for all columns besides the first", and views
-    (Z, "later", 1, Float(2, 0x3C00), 916992697738749),
-    (Z, "later", 1, View(THIRTEEN), 4269486303836246239),
+    # views
     (Z, "first", 0, View(TWELVE), 3938342635625432200),
     (Z, "first", 0, View(THIRTEEN), 2194587453236361088),
     # "into a fresh hasher"
-    (Z, "later", 5, Text(b"a"), 3426354210245051714),
     (Z, "later", 7, Struct(()), 23532),
     # structs, maps, lists
     (Z, "first", 0, Struct((BYTE, BYTE)), 955475604749407),

@@ -11,12 +11,30 @@ use Rattle.hash_state.specs.Writes.{Write}
 use Rattle.image.specs.Read.{offset, run_of, span, typed_slot, unmarked}
 use Rattle.image.specs.Slot.{Slot, null}
 use Rattle.row_rule.specs.Number.{combined, number_of}
-use Rattle.columns.specs.Fold.{Uses, combined_all, entry, folded, is_marked, row_number, through}
+use Rattle.columns.specs.Fold.{combined_all, entry, folded, is_marked, row_number, through}
 use Rattle.leaves.specs.Rows.{is_leaf}
 use Rattle.columns.specs.Jobs.{Did, Fine, each, ended, opened, part, reach_from, region, row_by, splice, standing, type_of}
 use Rattle.columns.specs.declared.job.Job.{Job}
 use Rattle.columns.specs.Machine.{turns}
 use Rattle.columns.proofs.Splices.{get_or-each, get_or-part, get_or-splice_below, get_or-splice_in, length-each, length-splice}
+
+-- a statement holds of each child row that an element uses
+abbrev pub Uses : DataType → List ℕ → Record → ℕ → (ℕ → Type 0) → Type 0
+Uses Null bytes r at P = Unit {0}
+Uses Boolean bytes r at P = Unit {0}
+Uses (Number w) bytes r at P = Unit {0}
+Uses (Float w) bytes r at P = Unit {0}
+Uses (Utf8 w) bytes r at P = Unit {0}
+Uses (Binary w) bytes r at P = Unit {0}
+Uses (FixedSizeBinary p) bytes r at P = Unit {0}
+Uses View bytes r at P = Unit {0}
+Uses (Dictionary w signed) bytes r at P = P (element w bytes r.a at)
+Uses Struct bytes r at P = (r.cnt == 0) ≡ false → P at
+Uses (ListOf w) bytes r at P = (k : ℕ) → k < span w bytes r at → P (offset w bytes r at + k)
+Uses (ListView w) bytes r at P = (k : ℕ) → k < element w bytes r.b at → P (element w bytes r.a at + k)
+Uses Map bytes r at P = (k : ℕ) → k < span Four bytes r at → P (offset Four bytes r at + k)
+Uses (FixedSizeList p) bytes r at P = (k : ℕ) → k < p → P (p * at + k)
+Uses (RunEnd w) bytes r at P = P (run_of w bytes r at)
 
 did_splice : (at n : ℕ) (F : ℕ → ℕ → ℕ) (w ys : List ℕ) → at + n ≤ length w → length ys ≡ n → ((i : ℕ) → i < n → get_or ys i 0 ≡ F i (get_or w (at + i) 0)) → Did at n F w (splice at n w ys)
 did_splice at n F w ys le ly h =

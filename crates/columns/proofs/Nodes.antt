@@ -4,7 +4,7 @@ use Rattle.layout.specs.declared.data_type.DataType.{DataType}
 use Rattle.layout.specs.declared.data_type.DataType.TheVariants.{Null, Boolean, Number, Float, Utf8, Binary, FixedSizeBinary, View, Dictionary, Struct, List as ListOf, ListView, Map, FixedSizeList, RunEnd}
 use Rattle.layout.specs.declared.bytes.Width.{Width}
 use Rattle.layout.specs.declared.record.Record.{Record}
-use Rattle.layout.specs.Nodes.{HoldsBit, child, child_rows, marked, reads_nulls, table}
+use Rattle.layout.specs.Nodes.{HoldsBit, child, child_rows, marked, reads_nulls, table, typed_mark}
 use Rattle.layout.specs.Records.{nodes, record_at}
 use Rattle.layout.specs.Types.{data_type}
 use Rattle.layout.specs.Views.{view_place}
@@ -15,7 +15,7 @@ use Rattle.admission.proofs.Links.{child_behind, linked}
 use Rattle.admission.proofs.Sound.{Passed, sound_headed, sound_read}
 use Rattle.leaves.specs.Rows.{LeafRow, Padded, is_leaf}
 use Rattle.image.proofs.Readable.{bit_there, readable}
-use Rattle.columns.specs.Fold.{is_marked, typed_mark}
+use Rattle.columns.specs.Fold.{is_marked}
 use Rattle.columns.specs.Jobs.{kids, need, reach_from, region, type_of}
 use Rattle.columns.specs.Seams.{FoldThere, ReachThere, RunsThere}
 use Rattle.columns.specs.declared.node.Node.{Node}

@@ -14,8 +14,8 @@ use Rattle.admission.proofs.Below.{none_at}
 use Rattle.admission.proofs.Sound.{Passed}
 use Rattle.image.specs.Read.{first_below, offset, run_of, span}
 use Rattle.image.proofs.Readable.{rises, step_up}
-use Rattle.columns.specs.Fold.{Uses}
 use Rattle.columns.specs.Jobs.{kids, reach_from, reach_till, region}
+use Rattle.columns.proofs.Meaning.{Uses}
 use Rattle.columns.proofs.Typed.{exactly}
 
 -- the region of a node with children

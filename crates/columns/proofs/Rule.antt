@@ -6,7 +6,7 @@ use Rattle.layout.specs.declared.bytes.Width.TheVariants.{Four}
 use Rattle.layout.specs.declared.record.Record.{Record}
 use Rattle.layout.specs.declared.data_type.DataType.{DataType}
 use Rattle.layout.specs.declared.data_type.DataType.TheVariants.{Null, Boolean, Number, Float, Utf8, Binary, FixedSizeBinary, View, Dictionary, Struct, List as ListOf, ListView, Map, FixedSizeList, RunEnd}
-use Rattle.layout.specs.Nodes.{child, element, listed, marked, reads_nulls, table}
+use Rattle.layout.specs.Nodes.{child, element, listed, marked, reads_nulls, table, typed_mark}
 use Rattle.layout.specs.Records.{record_at}
 use Rattle.layout.specs.Types.{data_type}
 use Rattle.hash_state.specs.Combine.{C}
@@ -14,7 +14,7 @@ use Rattle.hash_state.specs.Writes.{Write}
 use Rattle.image.specs.Read.{offset, run_of, sequence_of, slot_within, span, typed_slot, unmarked}
 use Rattle.image.specs.Slot.{Slot, null, paired, refer, slots}
 use Rattle.row_rule.specs.Number.{combined, elements, fields, is_null, number_of, pairs}
-use Rattle.columns.specs.Fold.{combined_all, entry, folded, is_first, is_marked, referred, row_number, through, typed_mark}
+use Rattle.columns.specs.Fold.{combined_all, entry, folded, is_first, is_marked, referred, row_number, through}
 
 module _ (ONE : List Write → ℕ) (SEED : ℕ → List Write → ℕ) where
   elements_all : (g : ℕ → Slot) (count e from : ℕ) → elements ONE SEED e (slots (map g (range_with_len from count))) ≡ combined_all (λ q. number_of ONE SEED true 0 (g q)) e from count

@@ -4,7 +4,7 @@ use Rattle.layout.specs.declared.bytes.Width.TheVariants.{Four}
 use Rattle.layout.specs.declared.record.Record.{Record}
 use Rattle.layout.specs.declared.data_type.DataType.{DataType}
 use Rattle.layout.specs.declared.data_type.DataType.TheVariants.{Null, Boolean, Number, Float, Utf8, Binary, FixedSizeBinary, View, Dictionary, Struct, List as ListOf, ListView, Map, FixedSizeList, RunEnd}
-use Rattle.layout.specs.Nodes.{child, element, marked, reads_nulls}
+use Rattle.layout.specs.Nodes.{child, element, typed_mark}
 use Rattle.layout.specs.Records.{record_at}
 use Rattle.layout.specs.Types.{data_type}
 use Rattle.hash_state.specs.Combine.{C}
@@ -17,10 +17,6 @@ combined_all v e from zero = e
 combined_all v e from (suc count) = combined_all v (C e (v from)) (from + 1) count
 
 -- whether a row is marked null by its node's own bitmap
-abbrev pub typed_mark : Option DataType → List ℕ → Record → ℕ → Bool
-typed_mark None bytes r row = false
-typed_mark (Some t) bytes r row = reads_nulls t && marked bytes r row
-
 abbrev pub is_marked : List ℕ → ℕ → ℕ → Bool
 is_marked bytes node row = typed_mark (data_type (record_at bytes node)) bytes (record_at bytes node) row
 
@@ -64,21 +60,3 @@ entry (suc s) x = x
 unfoldable pub through : (ℕ → ℕ → ℕ) → ℕ → ℕ → ℕ → ℕ
 through g zero s x = x
 through g (suc m) s x = through g m (s + 1) (g s x)
-
--- a statement holds of each child row that an element uses
-abbrev pub Uses : DataType → List ℕ → Record → ℕ → (ℕ → Type 0) → Type 0
-Uses Null bytes r at P = Unit {0}
-Uses Boolean bytes r at P = Unit {0}
-Uses (Number w) bytes r at P = Unit {0}
-Uses (Float w) bytes r at P = Unit {0}
-Uses (Utf8 w) bytes r at P = Unit {0}
-Uses (Binary w) bytes r at P = Unit {0}
-Uses (FixedSizeBinary p) bytes r at P = Unit {0}
-Uses View bytes r at P = Unit {0}
-Uses (Dictionary w signed) bytes r at P = P (element w bytes r.a at)
-Uses Struct bytes r at P = (r.cnt == 0) ≡ false → P at
-Uses (ListOf w) bytes r at P = (k : ℕ) → k < span w bytes r at → P (offset w bytes r at + k)
-Uses (ListView w) bytes r at P = (k : ℕ) → k < element w bytes r.b at → P (element w bytes r.a at + k)
-Uses Map bytes r at P = (k : ℕ) → k < span Four bytes r at → P (offset Four bytes r at + k)
-Uses (FixedSizeList p) bytes r at P = (k : ℕ) → k < p → P (p * at + k)
-Uses (RunEnd w) bytes r at P = P (run_of w bytes r at)

@@ -1,5 +1,5 @@
 -- The low bytes of a number, cut and joined.
-use Rattle.std.proofs.Common.{◌≡◌, ℕ, zero, suc, ◌+◌, ◌-◌, ◌*◌, ◌/◌, ◌%◌, ◌^◌, ◌<◌, ◌≤◌, List, ◌∷◌, ◌++◌, length, take, drop, sym, refl, ap, ◌∙◌, subst, ap₂, append_assoc, take-append-drop, arith, pow_mono, pow-add, shr-shr, shr_lt}
+use Rattle.std.proofs.Common.{◌≡◌, ℕ, zero, suc, ◌+◌, ◌-◌, ◌*◌, ◌/◌, ◌%◌, ◌^◌, ◌<◌, ◌≤◌, List, [], ◌∷◌, ◌++◌, length, take, drop, sym, refl, ap, ◌∙◌, subst, ap₂, append_assoc, take-append-drop, rules, arith, pow_mono, pow-add, shr-shr, shr_lt}
 use Rattle.std.specs.List.{flat_map}
 use Rattle.std.specs.Simd.{first_chunks}
 use lib.Bits.{bit_or, or_mod, or_shifted_r}
@@ -12,6 +12,10 @@ use Rattle.hash_state.specs.Sip.{le_number}
 pub length-le_bytes : (k x : ℕ) → length (le_bytes k x) ≡ k
 length-le_bytes zero x = refl
 length-le_bytes (suc k) x = ap suc (length-le_bytes k (x / 256))
+
+-- the eight bytes of a word, each by its own quotient
+pub eight_bytes : (v : ℕ) → (v % 256) ∷ (v / 256 % 256) ∷ (v / 65536 % 256) ∷ (v / 16777216 % 256) ∷ (v / 4294967296 % 256) ∷ (v / 1099511627776 % 256) ∷ (v / 281474976710656 % 256) ∷ (v / 72057594037927936 % 256) ∷ [] ≡ le_bytes 8 v
+eight_bytes v = search rules
 
 -- the first i bytes, and the j above them
 pub split : (i j x : ℕ) → le_bytes (i + j) x ≡ le_bytes i x ++ le_bytes j (x / 2 ^ (8 * i))

@@ -1,18 +1,13 @@
--- FNV-1a over lists in parts, the bound of its numbers, and the bytes of a word.
-use Rattle.std.specs.Prelude.{◌≡◌, ℕ, ◌+◌, ◌-◌, ◌/◌, ◌%◌, ◌^◌, ◌<◌, List, [], ◌∷◌, ◌++◌, length, take, drop, slice_index}
-use Rattle.std.proofs.Common.{sym, ap, ◌∙◌, take-append-drop, rules, arith}
+-- FNV-1a over lists in parts, and the bound of its numbers.
+use Rattle.std.specs.Prelude.{◌≡◌, ℕ, ◌+◌, ◌-◌, ◌^◌, ◌<◌, List, [], ◌∷◌, ◌++◌, length, take, drop, slice_index}
+use Rattle.std.proofs.Common.{sym, ap, ◌∙◌, take-append-drop, arith}
 use Rattle.std.proofs.lemmas.List.{at_drop_more, take_rest}
 use Rattle.std.proofs.lemmas.List.Sums.{fold-append}
-use Rattle.hash_state.specs.Writes.{le_bytes}
 use Rattle.hash_state.specs.Fnv.{step, fnv1a}
 
 pub fnv1a_below : (bs : List ℕ) (h : ℕ) → h < 2 ^ 64 → fnv1a h bs < 2 ^ 64
 fnv1a_below [] h l = l
 fnv1a_below (b ∷ bs) h l = fnv1a_below bs (step h b) (omega arith)
-
--- The eight bytes of a word, each by its own quotient.
-pub eight_bytes : (v : ℕ) → (v % 256) ∷ (v / 256 % 256) ∷ (v / 65536 % 256) ∷ (v / 16777216 % 256) ∷ (v / 4294967296 % 256) ∷ (v / 1099511627776 % 256) ∷ (v / 281474976710656 % 256) ∷ (v / 72057594037927936 % 256) ∷ [] ≡ le_bytes 8 v
-eight_bytes v = search rules
 
 pub fnv1a-append : (xs ys : List ℕ) (h : ℕ) → fnv1a h (xs ++ ys) ≡ fnv1a (fnv1a h xs) ys
 fnv1a-append xs ys h = fold-append step h xs ys

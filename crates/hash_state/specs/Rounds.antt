@@ -1,14 +1,8 @@
--- Rotations, and the bound of SipHash's numbers.
-use Rattle.std.specs.Prelude.{◌≡◌, ℕ, ◌-◌, ◌*◌, ◌/◌, ◌%◌, ◌^◌, ◌<◌, bit_or, bit_xor}
-use Rattle.std.proofs.Common.{sym, ap, ◌∙◌, div-le_self, mod-eq_of_lt, mod-lt, arith, lit<}
-use Rattle.std.proofs.lemmas.Nat.{or_mod, xor_lt}
-use Rattle.hash_state.specs.Sip.{Sip, finalize, rotl, sip_round}
-
--- what `rotate_left` answers
-pub rotl_is : (k x : ℕ) → x < 2 ^ 64 → bit_or (x * 2 ^ k % 2 ^ 64) (x / 2 ^ (64 - k)) ≡ rotl k x
-rotl_is k x h =
-    let d : x / 2 ^ (64 - k) < 2 ^ 64 = omega (arith, div-le_self x (2 ^ (64 - k))) in
-    sym (or_mod (x * 2 ^ k) (x / 2 ^ (64 - k)) 64 ∙ ap (bit_or (x * 2 ^ k % 2 ^ 64)) (mod-eq_of_lt d))
+-- The bound of SipHash's numbers.
+use Rattle.std.specs.Prelude.{◌^◌, ◌<◌, bit_xor}
+use Rattle.std.proofs.Common.{mod-lt, lit<}
+use Rattle.std.proofs.lemmas.Nat.{xor_lt}
+use Rattle.hash_state.specs.Sip.{Sip, finalize, sip_round}
 
 record Below (s : Sip) : Type 0 where
   b0 : s.v0 < 2 ^ 64

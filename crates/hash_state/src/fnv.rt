@@ -68,7 +68,7 @@ impl Hasher for Fnv1aHasher {
     }
 
     #[inline(always)]
-    #[tactic(auto, using(crate::specs::Hashing::eight_bytes))]
+    #[tactic(auto, using(crate::proofs::Bytes::eight_bytes))]
     fn write_u64(&mut self, v: u64) {
         self.hash = hashed(self.hash, &u64::to_le_bytes(v));
     }

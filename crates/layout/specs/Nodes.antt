@@ -77,6 +77,11 @@ reads_nulls (RunEnd w) = false
 abbrev pub marked : List ℕ → Record → ℕ → Bool
 marked bytes r row = not (r.nulls == 0) && not (bit bytes r.nulls (r.start + row))
 
+-- the same of a row of any node: where the type is not there or has no bitmap, none is
+abbrev pub typed_mark : Option DataType → List ℕ → Record → ℕ → Bool
+typed_mark None bytes r row = false
+typed_mark (Some t) bytes r row = reads_nulls t && marked bytes r row
+
 -- the bitmap, if there is one, holds the bit of a row
 abbrev pub HoldsBit : List ℕ → Record → ℕ → Type 0
 HoldsBit bytes r row = (r.nulls == 0) ≡ false → r.nulls + (r.start + row) / 8 < length bytes

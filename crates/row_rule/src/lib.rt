@@ -2,11 +2,12 @@
 #![tactic(auto)]
 
 ghost use Rattle.row_rule.specs.Laws.{StaysApart, StaysBelow};
-ghost use Rattle.row_rule.specs.Worked.{WorkedNumbers};
+ghost use Rattle.row_rule.specs.Worked.{NumbersOfKinds, WorkedNumbers};
 
-// The worked numbers are the row rule's.
+// The worked numbers are the row rule's, those of few slots and those of each kind.
 pub fn worked_numbers_hold() -> bool
-    ensures { WorkedNumbers }
+    ensures worked { WorkedNumbers }
+    ensures kinds { NumbersOfKinds }
 {
     true
 }

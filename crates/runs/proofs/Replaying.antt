@@ -10,11 +10,11 @@ use Rattle.runs.specs.declared.call.Call.TheVariants.{Column, Keep, Read}
 use Rattle.runs.specs.Requests.{Request, Reply, read}
 use Rattle.runs.specs.Refusals.{most_rows}
 use Rattle.runs.specs.Ledger.{Ledger, begun, next, run}
-use Rattle.runs.specs.State.{State, replies, step, steps, told}
+use Rattle.runs.specs.State.{State, step, steps, told}
 use Rattle.runs.specs.Agreement.{Agrees}
 use Rattle.runs.specs.Calls.{Made, all_spared, is_misuse, made, reply_of, request_of, requests_of, spared}
 use Rattle.runs.specs.Lasting.{Lasting}
-use Rattle.runs.proofs.Agreeing.{agrees_run}
+use Rattle.runs.proofs.Agreeing.{agrees_run, replies}
 use Rattle.runs.proofs.Reordering.{reorders}
 use Rattle.runs.proofs.Staying.{stays_apart}
 

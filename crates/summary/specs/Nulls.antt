@@ -1,19 +1,14 @@
 -- The rows of a node that are marked null.
-use Rattle.std.specs.Prelude.{ℕ, zero, suc, ◌+◌, Bool, false, cond, ◌&&◌, List, Some, None, Option}
+use Rattle.std.specs.Prelude.{ℕ, zero, suc, ◌+◌, Bool, cond, List, Option}
 use Rattle.std.specs.Option.{option_map}
 use Rattle.layout.specs.declared.record.Record.{Record}
-use Rattle.layout.specs.declared.data_type.DataType.{DataType}
-use Rattle.layout.specs.Nodes.{marked, reads_nulls}
+use Rattle.layout.specs.Nodes.{typed_mark}
 use Rattle.layout.specs.Types.{data_type}
 use Rattle.image.specs.Values.{node_record}
 
--- whether a row of a type is marked null
-abbrev pub typed_null : Option DataType → List ℕ → Record → ℕ → Bool
-typed_null None bytes r row = false
-typed_null (Some t) bytes r row = reads_nulls t && marked bytes r row
-
+-- whether a row is marked null
 abbrev pub is_null : List ℕ → Record → ℕ → Bool
-is_null bytes r row = typed_null (data_type r) bytes r row
+is_null bytes r row = typed_mark (data_type r) bytes r row
 
 -- how many numbers below n pass a test
 abbrev pub count_below : ℕ → (ℕ → Bool) → ℕ

@@ -151,26 +151,17 @@ fn push_numbers(numbers: &mut Vec<u64>, number: u64, count: u64) -> Result<(), A
 
 // The same of 32 bits.
 fn parse_rows(heap: Global, words: &str) -> Result<Option<Vec<u32>>, AllocError> {
+    let Some(numbers) = parse_numbers(heap, words)? else {
+        return Ok(None);
+    };
     let mut rows = Vec::new(heap);
-    for word in words.split_ascii_whitespace() {
-        let Some((row, count)) = parse_repeated_row(word) else {
+    for number in numbers.as_slice() {
+        let Ok(row) = u32::try_from(*number) else {
             return Ok(None);
         };
-        push_rows(&mut rows, row, count)?;
-    }
-    Ok(Some(rows))
-}
-
-fn push_rows(rows: &mut Vec<u32>, row: u32, count: u64) -> Result<(), AllocError> {
-    for _ in 0..count {
         rows.push(row)?;
     }
-    Ok(())
-}
-
-fn parse_repeated_row(word: &str) -> Option<(u32, u64)> {
-    let (row, count) = parse_repeated(word)?;
-    Some((u32::try_from(row).ok()?, count))
+    Ok(Some(rows))
 }
 
 // The rows that are asked of begin, the words of work, the places for answers, and the entries.

@@ -5,7 +5,7 @@ ghost use Rattle.columns.specs.Jobs.{need};
 ghost use Rattle.layout.specs.Records.{nodes, record_at};
 
 use crate::line::{Line, Question, State};
-use crate::script::{End, Script, check_run};
+use crate::script::{End, Script, UNCLEARED, check_claimed, check_run};
 use anyhow::{Context, anyhow};
 use columns::{hash_column, node_need};
 use hash_state::{Fnv1aState, HashState};
@@ -17,9 +17,6 @@ use std::io::{BufRead, BufReader, Stdin};
 const PAST: usize = 3;
 
 const CLAIMED: usize = 5;
-
-// What the work holds before a call, so that words show that should have been cleared.
-const UNCLEARED: u64 = 0x9e3779b97f4a7c15;
 
 // How far the lines are read, and what of them agreed.
 #[derive(Drop)]
@@ -261,10 +258,7 @@ fn check_numbers<S: HashState>(
         CLAIMED,
     );
     compare(entries.as_slice(), question)?;
-    if work.iter().take(CLAIMED).any(|word| *word != UNCLEARED) {
-        return Err(anyhow!("a claimed word of the work has changed"));
-    }
-    Ok(())
+    check_claimed(work.as_slice(), CLAIMED)
 }
 
 // Entries behind the numbers have to be as they were.

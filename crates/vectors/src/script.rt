@@ -8,8 +8,8 @@ use runs::replay::replay;
 use runs::run::RowRead;
 use std::alloc::{AllocError, Global};
 
-// What the work holds before a run.
-const UNCLEARED: u64 = 0x9e3779b97f4a7c15;
+// What the work holds before a run or a column, so that words show that should have been cleared.
+pub(crate) const UNCLEARED: u64 = 0x9e3779b97f4a7c15;
 
 // What places for answers hold before a run. No call answers it, since a read counts a column at least.
 const NO_ANSWER: Answer = Answer::Row(RowRead {
@@ -154,7 +154,12 @@ pub(crate) fn check_run<S: HashState>(
     compare_answers(script.steps.as_slice(), answers.as_slice(), line)?;
     compare_end(replayed, end)?;
     compare_entries(entries.as_slice(), end.entries.as_slice())?;
-    if work.iter().take(end.spared).any(|word| *word != UNCLEARED) {
+    check_claimed(work.as_slice(), end.spared)
+}
+
+// The first words, which were claimed, are as they were.
+pub(crate) fn check_claimed(work: &[u64], claimed: usize) -> anyhow::Result<()> {
+    if work.iter().take(claimed).any(|word| *word != UNCLEARED) {
         return Err(anyhow!("a claimed word of the work has changed"));
     }
     Ok(())

@@ -1,8 +1,14 @@
-use Rattle.std.proofs.Common.{ℕ, ◌+◌, ◌%◌, ◌^◌, ◌∙◌, arith}
-use lib.Bits.{bit_xor, xor_lt}
-use Rattle.hash_state.specs.Sip.{sip_round}
-use Rattle.hash_state.specs.Rounds.{rotl_is}
+use Rattle.std.proofs.Common.{◌≡◌, ℕ, ◌+◌, ◌-◌, ◌*◌, ◌/◌, ◌%◌, ◌^◌, ◌<◌, sym, ap, ◌∙◌, div-le_self, mod-eq_of_lt, arith}
+use Rattle.std.proofs.lemmas.Nat.{or_mod}
+use lib.Bits.{bit_or, bit_xor, xor_lt}
+use Rattle.hash_state.specs.Sip.{rotl, sip_round}
 use Rattle.hash_state.proofs.siphash.rounds.State.turned.Goals as goal
+
+-- what `rotate_left` answers
+rotl_is : (k x : ℕ) → x < 2 ^ 64 → bit_or (x * 2 ^ k % 2 ^ 64) (x / 2 ^ (64 - k)) ≡ rotl k x
+rotl_is k x h =
+    let d : x / 2 ^ (64 - k) < 2 ^ 64 = omega (arith, div-le_self x (2 ^ (64 - k))) in
+    sym (or_mod (x * 2 ^ k) (x / 2 ^ (64 - k)) 64 ∙ ap (bit_or (x * 2 ^ k % 2 ^ 64)) (mod-eq_of_lt d))
 
 pub returns : goal.returns
 unfolding sip_round
