@@ -12,6 +12,7 @@ abbrev pub typed_null : Option DataType → List ℕ → Record → ℕ → Bool
 typed_null None bytes r row = false
 typed_null (Some t) bytes r row = reads_nulls t && marked bytes r row
 
+-- whether a row of a node is marked null
 abbrev pub is_null : List ℕ → Record → ℕ → Bool
 is_null bytes r row = typed_null (data_type r) bytes r row
 
