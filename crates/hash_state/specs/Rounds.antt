@@ -10,12 +10,14 @@ rotl_is k x h =
     let d : x / 2 ^ (64 - k) < 2 ^ 64 = omega (arith, div-le_self x (2 ^ (64 - k))) in
     sym (or_mod (x * 2 ^ k) (x / 2 ^ (64 - k)) 64 ∙ ap (bit_or (x * 2 ^ k % 2 ^ 64)) (mod-eq_of_lt d))
 
+-- the four words are below 2^64
 record Below (s : Sip) : Type 0 where
   b0 : s.v0 < 2 ^ 64
   b1 : s.v1 < 2 ^ 64
   b2 : s.v2 < 2 ^ 64
   b3 : s.v3 < 2 ^ 64
 
+-- a round leaves the four words below 2^64, whatever they were
 round_below : (s : Sip) → Below (sip_round s)
 unfolding sip_round
 round_below s = record {
@@ -25,6 +27,7 @@ round_below s = record {
   b3 = xor_lt 64 _ _ (mod-lt _ (lit< tt)) (mod-lt _ (lit< tt));
 }
 
+-- finalization gives a number below 2^64
 pub finalize_below : (s : Sip) → finalize s < 2 ^ 64
 unfolding finalize
 finalize_below s =
