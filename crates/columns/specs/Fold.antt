@@ -16,11 +16,12 @@ unfoldable pub combined_all : (ℕ → ℕ) → ℕ → ℕ → ℕ → ℕ
 combined_all v e from zero = e
 combined_all v e from (suc count) = combined_all v (C e (v from)) (from + 1) count
 
--- whether a row is marked null by its node's own bitmap
+-- whether a row of a type, if there is one, is marked null by its node's own bitmap
 abbrev pub typed_mark : Option DataType → List ℕ → Record → ℕ → Bool
 typed_mark None bytes r row = false
 typed_mark (Some t) bytes r row = reads_nulls t && marked bytes r row
 
+-- whether a row of the node of a number is marked null
 abbrev pub is_marked : List ℕ → ℕ → ℕ → Bool
 is_marked bytes node row = typed_mark (data_type (record_at bytes node)) bytes (record_at bytes node) row
 
@@ -60,7 +61,7 @@ abbrev pub entry : ℕ → ℕ → ℕ
 entry zero x = 0
 entry (suc s) x = x
 
--- g s at each s of the m from s on, in turn
+-- g at each of the m numbers from s on, in turn
 unfoldable pub through : (ℕ → ℕ → ℕ) → ℕ → ℕ → ℕ → ℕ
 through g zero s x = x
 through g (suc m) s x = through g m (s + 1) (g s x)
