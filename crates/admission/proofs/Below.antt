@@ -15,6 +15,7 @@ use Rattle.std.proofs.lemmas.List.FromFn.{get_or-range_with_len, length-range_wi
 use denote.Param.Members.{Mut}
 use Rattle.layout.specs.Nodes.{some_below}
 
+-- where no number below n passes a test, each of them fails it
 pub none_at : (n : ℕ) (test : ℕ → Bool) (k : ℕ) → some_below n test ≡ false → k < n → test k ≡ false
 none_at zero test k e h = absurd (omega arith)
 none_at (suc n) test k e h =

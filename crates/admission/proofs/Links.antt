@@ -40,6 +40,7 @@ module _ (bytes : List ℕ) (node : ℕ) (r : Record) where
         → (k : ℕ) → k < least → ChildThere bytes r k
     least_there least most e f k h = children_there least most e f k (omega (arith, (children_parts (length bytes) least most r e).0))
 
+    -- what TAB lists can be read, once the table and the children have passed
     pub linked : (t : DataType) → bad_table (length bytes) (table t) r ≡ false → bad_child bytes node (table t) r ≡ false → Linked bytes t r
     linked Null e f = tt
     linked Boolean e f = tt

@@ -24,12 +24,13 @@ reference_parts : (mark long : Bool) (count buffer size offset len : ℕ) → (n
     → mark ≡ false → long ≡ true → (buffer < count) × (offset + len ≤ size)
 reference_parts mark long count buffer size offset len e p q = (grind (arith, nat_tests), grind (arith, nat_tests))
 
--- the bitmap of a node, if it has one, and its own buffers lie inside
+-- the bitmap of a node, if it has one, lies inside
 pub bitmap_passed : (bytes : List ℕ) (t : DataType) (r : Record) → bad_buffer bytes t r ≡ false
     → (reads_nulls t && (not (eqb r.nulls 0) && outside (length bytes) r.nulls (bitmap_bytes (elements r)))) ≡ false
 bitmap_passed bytes t r e =
     (or_parts (reads_nulls t && (not (eqb r.nulls 0) && outside (length bytes) r.nulls (bitmap_bytes (elements r)))) (bad_values bytes t r) e).0
 
+-- a node's own buffers lie inside
 pub values_passed : (bytes : List ℕ) (t : DataType) (r : Record) → bad_buffer bytes t r ≡ false → bad_values bytes t r ≡ false
 values_passed bytes t r e =
     (or_parts (reads_nulls t && (not (eqb r.nulls 0) && outside (length bytes) r.nulls (bitmap_bytes (elements r)))) (bad_values bytes t r) e).1
@@ -42,6 +43,7 @@ module _ (bytes : List ℕ) (r : Record) (linked : Linked bytes View r) (inside 
   unfolding pairs_bad
   view_parts = or_parts (outside (length bytes) r.a (16 * elements r)) (some_below r.cnt pairs_bad) (values_passed bytes View r inside)
 
+  -- the 16 bytes of a row's view lie inside
   pub view_inside : (row : ℕ) → row < r.rows → view_place r row + 16 ≤ length bytes
   view_inside row h = omega (arith, ltb-false (length bytes) (r.a + 16 * elements r) view_parts.0)
 
@@ -55,6 +57,7 @@ module _ (bytes : List ℕ) (r : Record) (linked : Linked bytes View r) (inside 
       let parts = reference_parts (marked bytes r row) (is_long bytes view) r.cnt (view_buffer bytes view) (buffer_length bytes r (view_buffer bytes view)) (view_offset bytes view) (view_length bytes view) e p q in
       (linked (view_buffer bytes view) parts.0, omega (arith, parts.1, buffer_inside (view_buffer bytes view) parts.0))
 
+  -- a row's view can be read, and where it is long and unmarked its pair and its bytes too
   pub view_there : out_of_reach bytes View r ≡ false → (row : ℕ) → row < r.rows → ViewThere bytes r row
   view_there reached row h = (
     bit_held bytes r row h (bitmap_passed bytes View r inside),

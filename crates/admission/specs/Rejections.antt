@@ -108,14 +108,14 @@ bad_order bytes (RunEnd w) r = bad_run_ends w bytes r
 abbrev pub last_offset : Width → List ℕ → Record → ℕ
 last_offset w bytes r = element w bytes r.a (elements r)
 
--- a key that is negative or no row of the child
+-- an unmarked key that is negative, where keys are signed, or no row of the child
 abbrev pub bad_key : List ℕ → Width → Bool → Record → ℕ → Bool
 bad_key bytes w signed r row =
     not (marked bytes r row)
     && ((signed && negative w (element w bytes r.a (r.start + row)))
     || nat_le (child_rows bytes r 0) (element w bytes r.a (r.start + row)))
 
--- a list view whose offset or size is negative, or that ends past the child's rows
+-- an unmarked list view whose offset or size is negative, or that ends past the child's rows
 abbrev pub bad_list_view : List ℕ → Width → Record → ℕ → Bool
 bad_list_view bytes w r row =
     not (marked bytes r row)
@@ -123,7 +123,7 @@ bad_list_view bytes w r row =
     || (negative w (element w bytes r.b (r.start + row))
     || nat_lt (child_rows bytes r 0) (element w bytes r.a (r.start + row) + element w bytes r.b (r.start + row))))
 
--- a long view that names no pair, or ends past its data buffer
+-- an unmarked long view that names no data buffer, or ends past it
 abbrev pub bad_reference : List ℕ → Record → ℕ → ℕ → Bool
 bad_reference bytes r row view =
     not (marked bytes r row)
@@ -167,6 +167,7 @@ bad_prefix bytes r view =
 abbrev pub bad_view : List ℕ → Record → ℕ → ℕ → Bool
 bad_view bytes r row view = not (marked bytes r row) && cond (is_long bytes view) (bad_prefix bytes r view) (bad_padding bytes view)
 
+-- 10: a column of views has a row whose view is bad
 abbrev pub bad_views : List ℕ → DataType → Record → Bool
 bad_views bytes Null r = false
 bad_views bytes Boolean r = false

@@ -1,6 +1,6 @@
 // Why an image is refused.
-ghost use Rattle.admission.specs.FirstFault.{numbered};
 ghost use Rattle.std.specs.Prelude.{◌≡◌};
+ghost use Rattle.admission.specs.FirstFault.{numbered};
 
 // Each case but the first with its node, one for each number of the format: a struct of a node and a rejection would
 // need its own match for the numbers, and the header's a node that it has not.

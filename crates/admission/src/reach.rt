@@ -12,8 +12,8 @@ use layout::bytes::{Native, Width, element_at};
 use layout::data_type::DataType;
 
 impl Node<'_> {
-    // An unmarked key that is no row of the values. Each test of a row asks for what it reads of
-    // that row, and for its mark first, as each of the definitions does.
+    // An unmarked key that is no row of the values. Each test of a row asks for what it reads of that row, and for its
+    // mark first, as each of the definitions does.
     fn is_bad_key(&self, width: Width, signed: bool, row: u32) -> bool
         requires bit { HoldsBit self.now.column.bytes.now self.now.column.record row }
         requires key { ElementThere width self.now.column.bytes.now self.now.column.record.a (self.now.column.record.start + row) }

@@ -38,7 +38,7 @@ impl Node<'_> {
         u32::load(bytes, view + 4) != u32::load(bytes, place)
     }
 
-    // An unmarked view with non-zero padding or a prefix unlike its first four bytes.
+    // A row with such a view, in a column of views.
     pub(crate) fn is_bad_views(&self) -> bool
         requires inside { bad_buffer self.now.column.bytes.now self.now.data_type self.now.column.record ≡ false }
         requires reached { out_of_reach self.now.column.bytes.now self.now.data_type self.now.column.record ≡ false }

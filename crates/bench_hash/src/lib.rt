@@ -2,11 +2,11 @@
 #![tactic(auto)]
 
 ghost use Rattle.std.specs.Prelude.{◌≡◌, [], ◌∷◌, ◌%◌, min, drop, take};
-ghost use Rattle.hash_state.specs.Values.{number};
-ghost use Rattle.hash_state.specs.Writes.{Bytes, joined};
+ghost use Rattle.bench_hash.specs.Rows.{rows};
 ghost use Rattle.hash_state.specs.Fnv.{fnv1a};
 ghost use Rattle.hash_state.specs.Sip.{siphash};
-ghost use Rattle.bench_hash.specs.Rows.{rows};
+ghost use Rattle.hash_state.specs.Values.{number};
+ghost use Rattle.hash_state.specs.Writes.{Bytes, joined};
 
 use hash_state::{
     Binary, BuildHasher, Float, Fnv1aState, HashState, HashValue, Hasher, Nothing, SipHashState,

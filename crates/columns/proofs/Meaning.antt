@@ -11,8 +11,8 @@ use Rattle.hash_state.specs.Writes.{Write}
 use Rattle.image.specs.Read.{offset, run_of, span, typed_slot, unmarked}
 use Rattle.image.specs.Slot.{Slot, null}
 use Rattle.row_rule.specs.Number.{combined, number_of}
-use Rattle.columns.specs.Fold.{combined_all, entry, folded, is_marked, row_number, through}
 use Rattle.leaves.specs.Rows.{is_leaf}
+use Rattle.columns.specs.Fold.{combined_all, entry, folded, is_marked, row_number, through}
 use Rattle.columns.specs.Jobs.{Did, Fine, each, ended, opened, part, reach_from, region, row_by, splice, standing, type_of}
 use Rattle.columns.specs.declared.job.Job.{Job}
 use Rattle.columns.specs.Machine.{turns}
@@ -40,6 +40,7 @@ did_splice : (at n : ℕ) (F : ℕ → ℕ → ℕ) (w ys : List ℕ) → at + n
 did_splice at n F w ys le ly h =
     record { same = length-splice at n w ys le ly; below = λ j l. get_or-splice_below at n w ys j le l; rows = λ i l. get_or-splice_in at n w ys i le ly l ∙ h i l }
 
+-- words that went through F and then through G went through both, one after the other
 pub did_then : (at n : ℕ) (F G : ℕ → ℕ → ℕ) (w w' w'' : List ℕ) → Did at n F w w' → Did at n G w' w'' → Did at n (λ i x. G i (F i x)) w w''
 did_then at n F G w w' w'' p q =
     record { same = q.same ∙ p.same; below = λ j l. q.below j l ∙ p.below j l; rows = λ i l. q.rows i l ∙ ap (G i) (p.rows i l) }
@@ -47,10 +48,12 @@ did_then at n F G w w' w'' p q =
 did_none : (at n : ℕ) (w : List ℕ) → Did at n (λ i x. x) w w
 did_none at n w = record { same = refl; below = λ j l. refl; rows = λ i l. refl }
 
+-- opening a region gives each word the entry that the child begins with
 pub opened_did : (at n s : ℕ) (w : List ℕ) → at + n ≤ length w → Did at n (λ i x. entry s x) w (opened at n s w)
 opened_did at n zero w le = did_splice at n (λ i x. 0) w (replicate n 0) le (length-replicate n 0) (λ i l. get_or-replicate n i 0 0 l)
 opened_did at n (suc s) w le = did_none at n w
 
+-- where each turn takes the words through a rule, all turns take them through the rules one after the other
 pub turns_did : (at n len : ℕ) (g : ℕ → List ℕ → List ℕ) (G : ℕ → ℕ → ℕ → ℕ) (m s : ℕ) (w : List ℕ) → length w ≡ len
     → ((t : ℕ) → t < s + m → (v : List ℕ) → length v ≡ len → Did at n (G t) v (g t v))
     → Did at n (λ i x. through (λ t y. G t i y) m s x) w (turns g m s w)
@@ -121,6 +124,7 @@ leaf_slot t bytes r f g row leaf = ap (cond (reads_nulls t && marked bytes r row
     same (FixedSizeList p) l = let z : ◌≡◌ {A = ℕ} 0 1 = cc in absurd (omega arith)
     same (RunEnd w) l = let z : ◌≡◌ {A = ℕ} 0 1 = cc in absurd (omega arith)
 
+-- what holds of the child rows that an element uses may be weakened
 pub uses_weaker : (t : DataType) (bytes : List ℕ) (r : Record) (at : ℕ) (P Q : ℕ → Type 0) → ((q : ℕ) → P q → Q q) → Uses t bytes r at P → Uses t bytes r at Q
 uses_weaker Null bytes r at P Q h u = tt
 uses_weaker Boolean bytes r at P Q h u = tt
@@ -173,6 +177,7 @@ module _ (ONE : List Write → ℕ) (SEED : ℕ → List Write → ℕ) (bytes :
       by_mark true m = refl
       by_mark false m = folded_same bytes r f g first e (r.start + row) t (uses_weaker t bytes r (r.start + row) _ (λ q. f q ≡ g q) agrees (reached node lo n row there rows low high m))
 
+  -- the words of a job that is ended become its rows' numbers, by those that stand in the region
   pub ended_did : (j : Job) (w : List ℕ) (v : ℕ → ℕ) → Fine ONE SEED bytes (length w) j
       → ((x : ℕ) → x < region (type_of bytes j.node) bytes (record_at bytes j.node) j.lo j.n
       → get_or w (j.at + j.n + x) 0 ≡ v (reach_from (type_of bytes j.node) bytes (record_at bytes j.node) j.lo + x))

@@ -6,6 +6,7 @@ use Rattle.columns.specs.Column.{met_rows}
 use Rattle.columns.specs.Jobs.{each, part, splice}
 use Rattle.columns.proofs.Splices.{get_or-each, get_or-part, length-each, length-part}
 
+-- a list by which n words meet a row has a row for each of them
 pub rows_for : (n : ℕ) (list : Option (Bor (List ℕ))) → met_rows n list ≡ n → RowsFor list n
 rows_for n None listed = tt
 rows_for n (Some list) listed = listed

@@ -35,6 +35,7 @@ module _ (bytes : List ℕ) (is-sound : sound bytes ≡ true) where
         none_at (child_count (data_type (record_at bytes node)) (record_at bytes node)) (λ k. higher bytes h (child bytes (record_at bytes node) k)) k low l,
       )
 
+  -- a need is the same by any number of levels that is not below the node's height
   pub need_same : (h f g node : ℕ) → higher bytes h node ≡ false → node < nodes bytes → h ≤ f → h ≤ g → need_within f bytes node ≡ need_within g bytes node
   need_same zero f g node low there p q = absurd (true≢false low)
   need_same (suc h) zero g node low there p q = absurd (omega arith)
@@ -54,6 +55,7 @@ module _ (bytes : List ℕ) (is-sound : sound bytes ≡ true) where
       let few = short (record_at bytes (child bytes (record_at bytes node) k)) (passed bytes is-sound (child bytes (record_at bytes node) k) down.0).short in
       omega (arith, few.0, need_bound f (child bytes (record_at bytes node) k) down.0 down.1))
 
+  -- no need is above 16 levels of 1,048,576 rows each
   pub need_small : (node : ℕ) → node < nodes bytes → need bytes node ≤ 16777216
   need_small node there = omega (arith, need_bound 16 node there (passed bytes is-sound node there).low)
 
@@ -71,7 +73,7 @@ module _ (bytes : List ℕ) (is-sound : sound bytes ≡ true) where
       ap (λ (x : ℕ). child_rows bytes (record_at bytes node) k + x)
       (each k (omega (arith, few)) ∙ need_same 15 16 15 (child bytes (record_at bytes node) k) down.1 down.0 (omega arith) (omega arith)))
 
-  -- the words of a region, and then those that a child needs
+  -- a region and the need of a child are together within the node's need
   pub region_need : (node lo n s : ℕ) → node < nodes bytes → lo + n ≤ (record_at bytes node).rows → s < kids (type_of bytes node) (record_at bytes node)
       → region (type_of bytes node) bytes (record_at bytes node) lo n + need bytes (child bytes (record_at bytes node) s) ≤ need bytes node
   region_need node lo n s there rows h =
@@ -84,6 +86,7 @@ module _ (bytes : List ℕ) (is-sound : sound bytes ≡ true) where
         need_same 15 16 15 (child bytes (record_at bytes node) s) down.1 down.0 (omega arith) (omega arith),
       )
 
+  -- a region alone is within the node's need
   pub region_inside : (node lo n : ℕ) → node < nodes bytes → lo + n ≤ (record_at bytes node).rows → region (type_of bytes node) bytes (record_at bytes node) lo n ≤ need bytes node
   region_inside node lo n there rows =
       let t : DataType = type_of bytes node in

@@ -13,8 +13,8 @@ use Rattle.admission.specs.Seams.{Linked}
 use Rattle.admission.proofs.Below.{none_at}
 use Rattle.admission.proofs.Links.{child_behind, linked}
 use Rattle.admission.proofs.Sound.{Passed, sound_headed, sound_read}
-use Rattle.leaves.specs.Rows.{LeafRow, Padded, is_leaf}
 use Rattle.image.proofs.Readable.{bit_there, readable}
+use Rattle.leaves.specs.Rows.{LeafRow, Padded, is_leaf}
 use Rattle.columns.specs.Fold.{is_marked}
 use Rattle.columns.specs.Jobs.{kids, need, reach_from, region, type_of}
 use Rattle.columns.specs.Seams.{FoldThere, ReachThere, RunsThere}
@@ -35,6 +35,7 @@ pub at_node : {X : Type 0} (F : List ℕ → DataType → Record → X) (n : Nod
 at_node F n bytes number eb ek =
     ap₂ (F (image_of n)) n.typed n.read ∙ ap₂ (λ (b : List ℕ) (k : ℕ). F b (type_of b k) (record_at b k)) eb ek
 
+-- what holds of the node of a number holds of a node that has it
 pub of_node : (P : List ℕ → DataType → Record → Type 0) (n : Node) (bytes : List ℕ) (number : ℕ) → image_of n ≡ bytes → n.number ≡ number
     → P bytes (type_of bytes number) (record_at bytes number) → P (image_of n) n.t n.column.record
 of_node P n bytes number eb ek p =
@@ -44,9 +45,11 @@ of_node P n bytes number eb ek p =
     (subst (λ (b : List ℕ). P b (type_of b number) (record_at b number)) (sym eb) p)))
 
 module _ (n : Node) where
+  -- its type is the one that its record tells
   pub node_typed : Some n.t ≡ data_type n.column.record
   node_typed = ap (λ (t : DataType). Some t) n.typed ∙ sym (ap data_type n.read ∙ typed (image_of n) n.sound n.number n.there)
 
+  -- no rejection applies to it
   pub node_passed : Passed (image_of n) n.number n.t n.column.record
   node_passed = sound_read (image_of n) n.sound n.number n.column.record n.t n.there n.read node_typed
 
@@ -54,9 +57,11 @@ module _ (n : Node) where
   pub node_short : (n.column.record.rows ≤ 1048576) × (n.column.record.start ≤ 1048576)
   node_short = short n.column.record node_passed.short
 
+  -- the bitmap, where NULLS is read, holds the bit of each row
   pub node_bit : (row : ℕ) → row < n.column.record.rows → reads_nulls n.t ≡ true → HoldsBit (image_of n) n.column.record row
   node_bit row h = bit_there (image_of n) n.number row n.column.record (sound_headed (image_of n) n.sound (omega (arith, n.there))) h n.t node_passed
 
+  -- the number of a child can be read, and the child and its record are there
   pub node_child : (index : ℕ) → index < kids n.t n.column.record
       → (n.column.record.tab + 4 * index + 4 ≤ length (image_of n)) × (child (image_of n) n.column.record index < nodes (image_of n)) × (4 + 36 * child (image_of n) n.column.record index + 36 ≤ length (image_of n))
   node_child index h =
@@ -69,9 +74,11 @@ module _ (n : Node) where
       let there = (node_child index h).1 in
       (short (record_at (image_of n) (child (image_of n) n.column.record index)) (passed (image_of n) n.sound (child (image_of n) n.column.record index) there).short).0
 
+  -- what TAB lists can be read
   pub node_linked : Linked (image_of n) n.t n.column.record
   node_linked = linked (image_of n) n.number n.column.record (sound_headed (image_of n) n.sound (omega (arith, n.there))) n.t node_passed.tabled node_passed.lined
 
+  -- what a range of rows reaches can be told
   pub node_reach : (lo count : ℕ) → lo + count ≤ n.column.record.rows → ReachThere n.t (image_of n) n.column.record lo count
   node_reach lo count rows = reach_there (image_of n) n.number n.column.record lo count rows n.t node_passed node_linked (child_few 0)
 
@@ -90,10 +97,11 @@ module _ (n : Node) where
       → FoldThere n.t (image_of n) n.column.record (n.column.record.start + row) (reach_from n.t (image_of n) n.column.record lo) (region n.t (image_of n) n.column.record lo count)
   node_fold lo count row rows low high m = fold_there (image_of n) n.number n.column.record lo count row rows low high n.t node_passed node_linked (child_few 0) m
 
-  -- a range reaches no further than a child's rows, and takes no more words than the node needs
+  -- a range reaches no further than a child's rows
   pub node_inside : (lo count : ℕ) → lo + count ≤ n.column.record.rows → (s : ℕ) → s < kids n.t n.column.record → reach_from n.t (image_of n) n.column.record lo + region n.t (image_of n) n.column.record lo count ≤ child_rows (image_of n) n.column.record s
   node_inside lo count rows s h = reach_inside (image_of n) n.number n.column.record lo count rows n.t node_passed s h
 
+  -- a region, and with it the need of each child, is within the node's need
   pub node_room : (lo count : ℕ) → lo + count ≤ n.column.record.rows
       → (region n.t (image_of n) n.column.record lo count ≤ need (image_of n) n.number)
       × ((s : ℕ) → s < kids n.t n.column.record → region n.t (image_of n) n.column.record lo count + need (image_of n) (child (image_of n) n.column.record s) ≤ need (image_of n) n.number)

@@ -9,11 +9,11 @@ use Rattle.admission.specs.FirstFault.{sound}
 use Rattle.admission.proofs.Links.{child_behind}
 use Rattle.hash_state.specs.Writes.{Write}
 use Rattle.image.specs.Read.{slot_at, slot_within, typed_slot}
-use Rattle.image.proofs.Levels.{deep_enough}
 use Rattle.image.specs.Slot.{Slot, null}
+use Rattle.image.proofs.Levels.{deep_enough}
 use Rattle.row_rule.specs.Number.{is_null, number_of}
-use Rattle.columns.specs.Fold.{entry, is_first, is_marked, row_number, through}
 use Rattle.leaves.specs.Rows.{is_leaf}
+use Rattle.columns.specs.Fold.{entry, is_first, is_marked, row_number, through}
 use Rattle.columns.specs.Jobs.{Did, Fine, kids, plan, reach_from, region, row_by, standing, type_of}
 use Rattle.columns.specs.declared.job.Job.{Job}
 use Rattle.columns.specs.Machine.{Fits, complete, turns}
@@ -32,7 +32,7 @@ module _ (ONE : List Write → ℕ) (SEED : ℕ → List Write → ℕ) (bytes :
   typed_within f node row there =
       ap (λ (o : Option DataType). elim o as (λ _. Slot) [ None ↦ null | Some t ↦ typed_slot t bytes (record_at bytes node) (slot_within f bytes) row ]) (typed bytes is-sound node there)
 
-  -- child 0 of a node with children is marked null where its slot is
+  -- a slot, read at one level or more, is null where its row is marked
   mark_of : (f node : ℕ) → node < nodes bytes → 0 < f → (q : ℕ) → is_null (slot_within f bytes node q) ≡ is_marked bytes node q
   mark_of zero node there h q = absurd (omega arith)
   mark_of (suc f) node there h q = marked_slot f bytes node q (type_of bytes node) (typed bytes is-sound node there)
@@ -63,6 +63,7 @@ module _ (ONE : List Write → ℕ) (SEED : ℕ → List Write → ℕ) (bytes :
   fits_levels len (suc f) j h = omega arith
 
   module _ (reached : Reached bytes) where
+    -- the words of a job that is completed become its rows' numbers
     pub complete_did : (len f : ℕ) (j : Job) (w : List ℕ) → Fits (plan ONE SEED bytes len) f j → length w ≡ len
         → Did j.at j.n (λ i x. number_of ONE SEED j.first x (slot_within f bytes j.node (j.lo + i))) w (complete (plan ONE SEED bytes len) f j 0 w)
     unfolding complete Fits

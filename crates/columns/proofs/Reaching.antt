@@ -49,6 +49,7 @@ first_later zero easy hard h = omega arith
 first_later (suc n) easy hard h =
     later_step (easy 0) (hard 0) _ _ (h 0) (first_later n (λ k. easy (suc k)) (λ k. hard (suc k)) (λ k. h (suc k)))
 
+-- the run of a later element is not an earlier one
 pub run_rises : (w : Width) (bytes : List ℕ) (r : Record) (a b : ℕ) → a ≤ b → run_of w bytes r a ≤ run_of w bytes r b
 run_rises w bytes r a b h =
     first_later (child_rows bytes r 0) _ _ (λ k e. lt-ltb a (element w bytes r.a k) (omega (arith, ltb-true b (element w bytes r.a k) e)))
@@ -81,6 +82,7 @@ key_there : (mark signed neg : Bool) (rows key : ℕ) → (not mark && ((signed 
 key_there true signed neg rows key e m = absurd (true≢false m)
 key_there false signed neg rows key e m = leb-false rows key (or_parts (signed && neg) (leb rows key) e).1
 
+-- an unmarked list view ends within the child's rows
 pub list_view_there : (mark a b : Bool) (rows from size : ℕ) → (not mark && (a || (b || ltb rows (from + size)))) ≡ false → mark ≡ false → from + size ≤ rows
 list_view_there true a b rows from size e m = absurd (true≢false m)
 list_view_there false a b rows from size e m = ltb-false rows (from + size) (or_parts b (ltb rows (from + size)) (or_parts a (b || ltb rows (from + size)) e).1).1
@@ -91,7 +93,7 @@ two_children (suc zero) P h a b = b
 two_children (suc (suc s)) P h a b = absurd (omega arith)
 
 module _ (bytes : List ℕ) (node : ℕ) (r : Record) (lo n : ℕ) (rows : lo + n ≤ r.rows) where
-  -- the rows of a range reach no further than the child's rows
+  -- the offsets around a range do not fall, and are within what the last offset is within
   pub offsets_inside : (w : Width) (limit : ℕ) → bad_offsets w bytes r ≡ false → last_offset w bytes r ≤ limit
       → (offset w bytes r (r.start + lo) ≤ offset w bytes r (r.start + lo + n)) × (offset w bytes r (r.start + lo + n) ≤ limit)
   offsets_inside w limit ordered l =
@@ -105,6 +107,7 @@ module _ (bytes : List ℕ) (node : ℕ) (r : Record) (lo n : ℕ) (rows : lo + 
   span_inside : (t : DataType) (limit : ℕ) → 0 < kids t r → reach_from t bytes r lo ≤ reach_till t bytes r lo n → reach_till t bytes r lo n ≤ limit → reach_from t bytes r lo + region t bytes r lo n ≤ limit
   span_inside t limit some low high = omega (arith, region_is t bytes r lo n some)
 
+  -- the rows of a range reach no further than a child's rows
   pub reach_inside : (t : DataType) → Passed bytes node t r → (s : ℕ) → s < kids t r → reach_from t bytes r lo + region t bytes r lo n ≤ child_rows bytes r s
   reach_inside Null p s h = absurd (omega arith)
   reach_inside Boolean p s h = absurd (omega arith)
@@ -179,6 +182,7 @@ module _ (bytes : List ℕ) (node : ℕ) (r : Record) (lo n row : ℕ) (rows : l
       subst (λ (x : ℕ). offset w bytes r (r.start + row + 1) ≤ offset w bytes r x) (omega arith) (subst (λ (x : ℕ). offset w bytes r x ≤ offset w bytes r (r.start + (lo + n))) (omega arith) b) in
       between t (offset w bytes r (r.start + row) + k) some (omega arith) (omega arith)
 
+  -- the child rows that an unmarked row of a range uses are in the range's region
   pub uses_reached : (t : DataType) → Passed bytes node t r → (reads_nulls t && marked bytes r row) ≡ false → Uses t bytes r (r.start + row) (In t)
   uses_reached Null p m = tt
   uses_reached Boolean p m = tt
@@ -231,6 +235,7 @@ first_is (suc n) test (suc k) h before here =
     cond-false (test 0) 0 _ (before 0 (omega arith))
     ∙ ap suc (first_is n (λ i. test (suc i)) k (omega arith) (λ i l. before (suc i) (omega arith)) (λ l. here (omega arith)))
 
+-- run ends do not fall
 pub ends_rise : (w : Width) (bytes : List ℕ) (r : Record) → bad_run_ends w bytes r ≡ false → (i j : ℕ) → i ≤ j → j < child_rows bytes r 0 → element w bytes r.a i ≤ element w bytes r.a j
 ends_rise w bytes r ordered i j h l = rises (element w bytes r.a) j step i h
   where

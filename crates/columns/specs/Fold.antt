@@ -4,7 +4,7 @@ use Rattle.layout.specs.declared.bytes.Width.TheVariants.{Four}
 use Rattle.layout.specs.declared.record.Record.{Record}
 use Rattle.layout.specs.declared.data_type.DataType.{DataType}
 use Rattle.layout.specs.declared.data_type.DataType.TheVariants.{Null, Boolean, Number, Float, Utf8, Binary, FixedSizeBinary, View, Dictionary, Struct, List as ListOf, ListView, Map, FixedSizeList, RunEnd}
-use Rattle.layout.specs.Nodes.{child, element, typed_mark}
+use Rattle.layout.specs.Nodes.{child, element, marked, reads_nulls, typed_mark}
 use Rattle.layout.specs.Records.{record_at}
 use Rattle.layout.specs.Types.{data_type}
 use Rattle.hash_state.specs.Combine.{C}
@@ -16,7 +16,7 @@ unfoldable pub combined_all : (ℕ → ℕ) → ℕ → ℕ → ℕ → ℕ
 combined_all v e from zero = e
 combined_all v e from (suc count) = combined_all v (C e (v from)) (from + 1) count
 
--- whether a row is marked null by its node's own bitmap
+-- whether a row of the node of a number is marked null by its own bitmap
 abbrev pub is_marked : List ℕ → ℕ → ℕ → Bool
 is_marked bytes node row = typed_mark (data_type (record_at bytes node)) bytes (record_at bytes node) row
 
@@ -56,7 +56,7 @@ abbrev pub entry : ℕ → ℕ → ℕ
 entry zero x = 0
 entry (suc s) x = x
 
--- g s at each s of the m from s on, in turn
+-- g at each of the m numbers from s on, in turn
 unfoldable pub through : (ℕ → ℕ → ℕ) → ℕ → ℕ → ℕ → ℕ
 through g zero s x = x
 through g (suc m) s x = through g m (s + 1) (g s x)

@@ -18,11 +18,12 @@ use Rattle.columns.specs.declared.job.Job.{Job}
 use Rattle.columns.specs.Fold.{is_first, row_number}
 use Rattle.columns.specs.Machine.{Plan}
 
--- the words that a node with children needs: the most of a child's rows and its need, going down so many nodes
+-- the greatest of f at the numbers below n, 0 where there are none
 abbrev pub most : (ℕ → ℕ) → ℕ → ℕ
 most f zero = 0
 most f (suc n) = max (most f n) (f n)
 
+-- the words of work that a node needs, going down at most so many nodes: the largest sum of a child's rows and its need
 abbrev pub need_within : ℕ → List ℕ → ℕ → ℕ
 need_within zero bytes node = 0
 need_within (suc levels) bytes node =
@@ -33,7 +34,7 @@ need_within (suc levels) bytes node =
 abbrev pub need : List ℕ → ℕ → ℕ
 need bytes node = need_within 16 bytes node
 
--- the child rows that so many rows from one on reach: from the first of them
+-- the first of the child rows that rows from `lo` on reach
 abbrev pub reach_from : DataType → List ℕ → Record → ℕ → ℕ
 reach_from Null bytes r lo = 0
 reach_from Boolean bytes r lo = 0
@@ -51,7 +52,7 @@ reach_from Map bytes r lo = offset Four bytes r (r.start + lo)
 reach_from (FixedSizeList p) bytes r lo = p * (r.start + lo)
 reach_from (RunEnd w) bytes r lo = run_of w bytes r (r.start + lo)
 
--- to behind the last of them
+-- the child row behind the last that the n rows from `lo` on reach
 abbrev pub reach_till : DataType → List ℕ → Record → ℕ → ℕ → ℕ
 reach_till Null bytes r lo n = 0
 reach_till Boolean bytes r lo n = 0
@@ -69,11 +70,12 @@ reach_till Map bytes r lo n = offset Four bytes r (r.start + lo + n)
 reach_till (FixedSizeList p) bytes r lo n = p * (r.start + lo + n)
 reach_till (RunEnd w) bytes r lo n = cond (n == 0) (run_of w bytes r (r.start + lo)) (run_of w bytes r (r.start + lo + n - 1) + 1)
 
--- the type of a node, Null where it has none
+-- a type, Null where there is none
 abbrev pub or_null : Option DataType → DataType
 or_null None = Null
 or_null (Some t) = t
 
+-- the type of a node, Null where it has none
 abbrev pub type_of : List ℕ → ℕ → DataType
 type_of bytes node = or_null (data_type (record_at bytes node))
 
@@ -85,10 +87,11 @@ kids t r = listed (table t) r.cnt
 abbrev pub region : DataType → List ℕ → Record → ℕ → ℕ → ℕ
 region t bytes r lo n = cond (kids t r == 0) 0 (reach_till t bytes r lo n - reach_from t bytes r lo)
 
--- the n words from a place on, and the list with others in their place
+-- the n words from a place on
 abbrev pub part : ℕ → ℕ → List ℕ → List ℕ
 part at n words = take n (drop at words)
 
+-- the words with others in place of the n from a place on
 abbrev pub splice : ℕ → ℕ → List ℕ → List ℕ → List ℕ
 splice at n words new = take at words ++ (new ++ drop (at + n) words)
 
@@ -109,7 +112,7 @@ standing region from q = slice_index region (q - from)
 abbrev pub child_job : List ℕ → Record → ℕ → ℕ → ℕ → ℕ → Job
 child_job bytes r s lo n at = record { node = child bytes r s; lo = lo; n = n; at = at; first = is_first s }
 
--- that of the child rows that a job reaches, into the words behind the job's own
+-- the job of child s over the rows that a job reaches, into the words behind the job's own
 abbrev pub child_at : List ℕ → DataType → Record → Job → ℕ → Job
 child_at bytes t r j s = child_job bytes r s (reach_from t bytes r j.lo) (region t bytes r j.lo j.n) (j.at + j.n)
 
@@ -131,6 +134,7 @@ module _ (ONE : List Write → ℕ) (SEED : ℕ → List Write → ℕ) (bytes :
     pub rows : j.lo + j.n ≤ (record_at bytes j.node).rows
     pub room : j.at + j.n + region (type_of bytes j.node) bytes (record_at bytes j.node) j.lo j.n ≤ len
 
+  -- what stands for a frame that is not there
   abbrev pub no_frame : Frame
   no_frame = record { job = record { node = 0; lo = 0; n = 0; at = 0; first = false }; stage = 0 }
 

@@ -15,7 +15,7 @@ use Rattle.image.specs.Read.{offset, run_of, span}
 abbrev pub Within : ℕ → ℕ → ℕ → ℕ → Type 0
 Within from len start count = (from ≤ start) × (start + count ≤ from + len)
 
--- two offsets that do not fall
+-- two offsets, of elements n apart, that can be read, do not fall, and have 32 bits
 abbrev pub OffsetsThere : Width → List ℕ → Record → ℕ → ℕ → Type 0
 OffsetsThere w bytes r at n =
     ElementThere w bytes r.a at

@@ -104,8 +104,8 @@ pub(crate) struct Fold<'a, 'l, 'w> {
 }
 
 impl Fold<'_, '_, '_> {
-    // The number of a row of the span, from its word; a row that is marked null keeps it.
-    // Rows are of the size of places here, so that a row's element is found by no cast.
+    // The number of a row of the span, from its word; a row that is marked null keeps it. Rows are of the size of
+    // places here, so that a row's element is found by no cast.
     fn number<A: NestedArray>(self, array: &A, row: usize, e: u64) -> u64
         requires covered { (self.span.from ≤ row) × (row < self.span.from + self.span.size) }
         requires column { A.NestedArray.column array.now ≡ self.met.node.column }

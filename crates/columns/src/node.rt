@@ -1,11 +1,11 @@
 // A node of an admitted image, as the walk sees it.
+ghost use Rattle.std.specs.Prelude.{◌≡◌, ◌<◌, ◌&&◌, true};
 ghost use Rattle.admission.specs.FirstFault.{sound};
 ghost use Rattle.columns.specs.Jobs.{kids, or_null, type_of};
-ghost use Rattle.leaves.specs.Rows.{is_leaf};
 ghost use Rattle.layout.specs.Nodes.{child, marked, reads_nulls};
 ghost use Rattle.layout.specs.Records.{nodes, record_at};
 ghost use Rattle.layout.specs.Types.{data_type};
-ghost use Rattle.std.specs.Prelude.{◌≡◌, ◌<◌, ◌&&◌, true};
+ghost use Rattle.leaves.specs.Rows.{is_leaf};
 
 use image::place::Image;
 use layout::column::Column;

@@ -1,7 +1,7 @@
 // The child rows that rows of a node reach.
 ghost use Rattle.std.specs.Prelude.{◌≡◌, ◌+◌, ◌-◌, ◌≤◌};
-ghost use Rattle.columns.specs.Seams.{OffsetsThere, ReachThere};
 ghost use Rattle.columns.specs.Jobs.{reach_from, region};
+ghost use Rattle.columns.specs.Seams.{OffsetsThere, ReachThere};
 ghost use Rattle.image.specs.Read.{offset};
 ghost use Rattle.layout.specs.declared.data_type.DataType.TheVariants.{RunEnd};
 

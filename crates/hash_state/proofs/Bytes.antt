@@ -5,10 +5,11 @@ use Rattle.std.specs.Simd.{first_chunks}
 use lib.Bits.{bit_or, or_mod, or_shifted_r}
 use lib.Arith.{digits_lt}
 use lib.Pow.{field, high, low, mod-mod-pow, mod-pow-add}
-use Rattle.hash_state.specs.Writes.{le_bytes}
 use Rattle.std.proofs.lemmas.List.{drop_at, drop-drop}
+use Rattle.hash_state.specs.Writes.{le_bytes}
 use Rattle.hash_state.specs.Sip.{le_number}
 
+-- there are as many low bytes as are asked for
 pub length-le_bytes : (k x : ℕ) → length (le_bytes k x) ≡ k
 length-le_bytes zero x = refl
 length-le_bytes (suc k) x = ap suc (length-le_bytes k (x / 256))
@@ -30,6 +31,7 @@ split (suc i) j x =
     split i j (x / 256) ∙ ap (λ (y : ℕ). le_bytes i (x / 256) ++ le_bytes j y) (shr-shr x 8 (8 * i) ∙ ap (λ (e : ℕ). x / 2 ^ e) b) in
     ap (λ (n : ℕ). le_bytes n x) a ∙ ap (λ (l : List ℕ). (x % 256) ∷ l) more
 
+-- the low k bytes are those of the number modulo 2^(8k)
 pub le_bytes-mod : (k x : ℕ) → le_bytes k (x % 2 ^ (8 * k)) ≡ le_bytes k x
 le_bytes-mod zero x = refl
 le_bytes-mod (suc k) x =
@@ -38,6 +40,7 @@ le_bytes-mod (suc k) x =
     ∙ ap (λ (b : ℕ). b ∷ le_bytes k (x % 2 ^ (8 * k + 8) / 256)) (mod-mod-pow x (8 * k) 8)
     ∙ ap (λ (l : List ℕ). (x % 256) ∷ l) (ap (le_bytes k) (field x (8 * k) 8) ∙ le_bytes-mod k (x / 256))
 
+-- the low k bytes spell the number modulo 2^(8k)
 pub le_number-le_bytes : (k x : ℕ) → le_number (le_bytes k x) ≡ x % 2 ^ (8 * k)
 unfolding le_number
 le_number-le_bytes zero x = omega arith
@@ -54,13 +57,14 @@ join k w t v h =
     ∙ ap (λ (l : List ℕ). l ++ le_bytes w (x / 2 ^ (8 * k))) (sym (le_bytes-mod k x) ∙ ap (le_bytes k) (low v (8 * k) h))
     ∙ ap (λ (y : ℕ). le_bytes k t ++ le_bytes w y) (high v (8 * k) h))
 
--- the word that is full, and what runs over it
+-- the word that is full: the bytes that wait, and a number above them
 pub full_is : (t v e : ℕ) → t < 2 ^ e → e ≤ 64 → bit_or t (v * 2 ^ e % 2 ^ 64) ≡ (v * 2 ^ e + t) % 2 ^ 64
 full_is t v e h k =
     let p : 2 ^ e ≤ 2 ^ 64 = pow_mono k in
     let m : t ≡ t % 2 ^ 64 = omega arith in
     ap (λ (y : ℕ). bit_or y (v * 2 ^ e % 2 ^ 64)) m ∙ sym (or_mod t (v * 2 ^ e) 64) ∙ ap (λ (y : ℕ). y % 2 ^ 64) (or_shifted_r v e t h)
 
+-- what of that number runs over the word
 pub over_is : (t v e : ℕ) → t < 2 ^ e → e ≤ 56 → v / 2 ^ (56 - e) / 2 ^ 8 ≡ (v * 2 ^ e + t) / 2 ^ 64
 over_is t v e h k =
     let a : 56 - e + 8 ≡ 64 - e = omega arith in
@@ -72,12 +76,14 @@ over_is t v e h k =
     ∙ shr-shr x e (64 - e)
     ∙ ap (λ (d : ℕ). x / 2 ^ d) b
 
+-- a number of w bytes above one of k is one of k + w
 pub joint_lt : (k w t v : ℕ) → t < 2 ^ (8 * k) → v < 2 ^ (8 * w) → v * 2 ^ (8 * k) + t < 2 ^ (8 * (k + w))
 joint_lt k w t v h g =
     let a : 8 * w + 8 * k ≡ 8 * (k + w) = omega arith in
     let b : 2 ^ (8 * w) * 2 ^ (8 * k) ≡ 2 ^ (8 * (k + w)) = sym (pow-add 2 (8 * w) (8 * k)) ∙ ap (λ (e : ℕ). 2 ^ e) a in
     omega (arith, digits_lt g h, b)
 
+-- the bytes that wait and a number above them, where they do not fill the word
 pub held_is : (k w t v : ℕ) → t < 2 ^ (8 * k) → v < 2 ^ (8 * w) → k + w < 8 → bit_or t (v * 2 ^ (8 * k) % 2 ^ 64) ≡ v * 2 ^ (8 * k) + t
 held_is k w t v h g l =
     let e : 8 * k ≤ 64 = omega arith in
@@ -86,6 +92,7 @@ held_is k w t v h g l =
     let m : (v * 2 ^ (8 * k) + t) % 2 ^ 64 ≡ v * 2 ^ (8 * k) + t = omega (arith, joint_lt k w t v h g) in
     full_is t v (8 * k) h e ∙ m
 
+-- what runs over the word has as many bytes as there are beyond eight
 pub over_lt : (k w v : ℕ) → v < 2 ^ (8 * w) → k < 8 → 8 ≤ k + w → v / 2 ^ (56 - 8 * k) / 2 ^ 8 < 2 ^ (8 * (k + w - 8))
 over_lt k w v g l m =
     let a : 56 - 8 * k + 8 ≡ 64 - 8 * k = omega arith in
@@ -101,6 +108,7 @@ upper m k w h =
     let e : le_bytes m w ≡ le_bytes (m - k) w ++ le_bytes k (w / 2 ^ (8 * (m - k))) = ap (λ (n : ℕ). le_bytes n w) a ∙ split (m - k) k w in
     sym (ap (drop (m - k)) e ∙ drop_at (le_bytes (m - k) w) (le_bytes k (w / 2 ^ (8 * (m - k)))) (m - k) (length-le_bytes (m - k) w))
 
+-- the highest k of m bytes are a number of k bytes
 pub upper_lt : (m k w : ℕ) → k ≤ m → w < 2 ^ (8 * m) → w / 2 ^ (8 * (m - k)) < 2 ^ (8 * k)
 upper_lt m k w h g =
     let a : 8 * m ≡ 8 * k + 8 * (m - k) = omega arith in
@@ -113,6 +121,7 @@ last_part xs m k w h g e =
     let b : length xs - m + (m - k) ≡ length xs - k = omega arith in
     upper m k w h ∙ ap (drop (m - k)) e ∙ drop-drop (m - k) (length xs - m) xs ∙ ap (λ (p : ℕ). drop p xs) b
 
+-- two shifts are one
 pub shifted_is : (k w : ℕ) → k < 8 → w / 2 ^ (56 - 8 * k) / 2 ^ 8 ≡ w / 2 ^ (8 * (8 - k))
 shifted_is k w h =
     let a : 56 - 8 * k + 8 ≡ 8 * (8 - k) = omega arith in

@@ -48,6 +48,7 @@ finished_end s n t g =
     let w : bit_or t (n % 256 * 2 ^ 56 % 2 ^ 64) ≡ t + z * 2 ^ 56 = omega (arith, full_is t (n % 256) 56 f i) in
     ap (λ (l : List ℕ). finalize (compressed s l)) (ap (λ (y : ℕ). y ∷ []) w ∙ sym (last_word (n % 8) z t k g) ∙ ap (parsed z) (sym (append-nil (le_bytes (n % 8) t))))
 
+-- from the initial state a stream finishes with the hash of its bytes
 pub begun : (s : Sip) (k0 k1 : ℕ) (bs : List ℕ) → s ≡ initial k0 k1 → finished s ((0 + length bs) % 256) bs ≡ siphash k0 k1 bs
 unfolding finished siphash
 begun s k0 k1 bs e =
@@ -58,6 +59,7 @@ begun s k0 k1 bs e =
 counted : (n m : ℕ) (xs bs : List ℕ) → m ≡ length xs → ((n + m) % 2 ^ 64 + length bs) % 256 ≡ (n + length (xs ++ bs)) % 256
 counted n m xs bs e = omega (arith, length-append xs bs)
 
+-- a length modulo 2^64 leaves as many bytes beyond whole words
 pub mod_8 : (m : ℕ) → m % 2 ^ 64 % 8 ≡ m % 8
 mod_8 m = omega arith
 

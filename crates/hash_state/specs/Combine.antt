@@ -1,15 +1,15 @@
 -- Two numbers made one.
 use Rattle.std.specs.Prelude.{◌≡◌, ℕ, ◌+◌, ◌*◌, ◌%◌, ◌^◌, ◌<◌, Bool, cond}
 
--- The number of l and r together, in 64 bits.
+-- the number of l and r together, in 64 bits
 abbrev pub C : ℕ → ℕ → ℕ
 C l r = ((629 + l) * 37 + r) % 2 ^ 64
 
--- One-to-one in either argument: beside one and the same number, two words give equal numbers only if they are equal.
+-- one-to-one in either argument: beside one and the same number, two words give equal numbers only if they are equal
 abbrev pub OneToOne : Type 0
 OneToOne =
     (a b c : ℕ) → a < 2 ^ 64 → b < 2 ^ 64 → (C a c ≡ C b c → a ≡ b) × (C c a ≡ C c b → a ≡ b)
 
--- What a later column makes of its entry e: the number of the state seeded with e, or the value's own number combined with e.
+-- what a later column makes of its entry e: the number of the state seeded with e, or the value's own number combined with e
 abbrev pub later : Bool → ℕ → ℕ → ℕ → ℕ
 later seeds seeded one e = cond seeds seeded (C one e)

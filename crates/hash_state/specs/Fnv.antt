@@ -2,22 +2,22 @@
 use Rattle.std.specs.Prelude.{◌≡◌, ℕ, ◌*◌, ◌%◌, ◌^◌, List, [], ◌∷◌, bit_xor, refl}
 use Rattle.std.specs.List.{fold}
 
--- The standard start, which the publication calls the offset basis.
+-- the standard start, which the publication calls the offset basis
 abbrev pub offset_basis : ℕ
 offset_basis = 14695981039346656037
 
--- One byte: exclusive or, then a product with the prime in 64 bits.
+-- one byte: exclusive or, then a product with the prime in 64 bits
 abbrev pub step : ℕ → ℕ → ℕ
 step h b = (bit_xor h b * 1099511628211) % 2 ^ 64
 
--- The hash of a byte list from a start, one byte after another.
+-- the hash of a byte list from a start, one byte after another
 abbrev pub fnv1a : ℕ → List ℕ → ℕ
 fnv1a h bs = fold step h bs
 
--- The published hash of the text "a".
+-- the published hash of the text "a"
 pub published_a : fnv1a offset_basis (97 ∷ []) ≡ 0xaf63dc4c8601ec8c
 published_a = refl
 
--- The published hash of the text "foobar".
+-- the published hash of the text "foobar"
 pub published_foobar : fnv1a offset_basis (102 ∷ 111 ∷ 111 ∷ 98 ∷ 97 ∷ 114 ∷ []) ≡ 0x85944171f73967e8
 published_foobar = refl

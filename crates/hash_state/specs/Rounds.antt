@@ -4,12 +4,14 @@ use Rattle.std.proofs.Common.{mod-lt, lit<}
 use Rattle.std.proofs.lemmas.Nat.{xor_lt}
 use Rattle.hash_state.specs.Sip.{Sip, finalize, sip_round}
 
+-- the four words are below 2^64
 record Below (s : Sip) : Type 0 where
   b0 : s.v0 < 2 ^ 64
   b1 : s.v1 < 2 ^ 64
   b2 : s.v2 < 2 ^ 64
   b3 : s.v3 < 2 ^ 64
 
+-- a round leaves the four words below 2^64, whatever they were
 round_below : (s : Sip) → Below (sip_round s)
 unfolding sip_round
 round_below s = record {
@@ -19,6 +21,7 @@ round_below s = record {
   b3 = xor_lt 64 _ _ (mod-lt _ (lit< tt)) (mod-lt _ (lit< tt));
 }
 
+-- finalization gives a number below 2^64
 pub finalize_below : (s : Sip) → finalize s < 2 ^ 64
 unfolding finalize
 finalize_below s =

@@ -2,35 +2,35 @@
 use Rattle.std.specs.Prelude.{ℕ, ◌-◌, ◌*◌, ◌^◌, Bool, true, false, cond, List, [], ◌∷◌, length, ◌==◌}
 use Rattle.hash_state.specs.Writes.{Write, Word, Bytes, le_bytes}
 
--- A Boolean: one byte, 0 or 1.
+-- a Boolean: one byte, 0 or 1
 abbrev pub boolean : Bool → List Write
 boolean true = Word 1 1 ∷ []
 boolean false = Word 1 0 ∷ []
 
--- A whole number of w bytes: one word.
+-- a whole number of w bytes: one word
 abbrev pub number : ℕ → ℕ → List Write
 number w v = Word w v ∷ []
 
--- The bits of a float of w bytes, where minus zero, the sign bit alone, is made 0.
+-- the bits of a float of w bytes, where minus zero, the sign bit alone, is made 0
 abbrev pub float_bits : ℕ → ℕ → ℕ
 float_bits w b = cond (b == 2 ^ (8 * w - 1)) 0 b
 
--- A float of w bytes: its bits as one word.
+-- a float of w bytes: its bits as one word
 abbrev pub float : ℕ → ℕ → List Write
 float w b = Word w (float_bits w b) ∷ []
 
--- The same under a seed: its bits as a byte string.
+-- the same under a seed: its bits as a byte string
 abbrev pub seeded_float : ℕ → ℕ → List Write
 seeded_float w b = Bytes (le_bytes w (float_bits w b)) ∷ []
 
--- Text: its bytes, and the byte 255, which UTF-8 never has.
+-- text: its bytes, and the byte 255, which UTF-8 never has
 abbrev pub text : List ℕ → List Write
 text bs = Bytes bs ∷ Word 1 255 ∷ []
 
--- Binary: its length, and its bytes.
+-- binary: its length, and its bytes
 abbrev pub binary : List ℕ → List Write
 binary bs = Word 8 (length bs) ∷ Bytes bs ∷ []
 
--- Nothing: the 4-byte word 1.
+-- nothing: the 4-byte word 1
 abbrev pub nothing : List Write
 nothing = Word 4 1 ∷ []

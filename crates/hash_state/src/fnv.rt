@@ -1,8 +1,8 @@
 // FNV-1a as a hasher.
 ghost use Rattle.std.specs.Prelude.{◌≡◌, ◌^◌, ◌<◌};
-ghost use Rattle.hash_state.specs.Writes.{joined};
 ghost use Rattle.hash_state.specs.Fnv.{fnv1a, offset_basis, step};
 ghost use Rattle.hash_state.specs.Hashing.{fnv1a_below};
+ghost use Rattle.hash_state.specs.Writes.{joined};
 
 use crate::hasher::{BuildHasher, HashState, Hasher};
 

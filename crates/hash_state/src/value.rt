@@ -1,9 +1,9 @@
 // The values that are hashed.
 ghost use Rattle.std.specs.Prelude.{◌≡◌, ℕ, Bool, true, false, List, ◌∷◌, ◌++◌, MatchOption};
 ghost use Rattle.hash_state.specs.Combine.{later};
-ghost use Rattle.hash_state.specs.Writes.{Write, Word, Bytes, le_bytes};
 ghost use Rattle.hash_state.specs.Values.{boolean, number, float_bits, float, seeded_float, text, binary, nothing};
 ghost use Rattle.hash_state.specs.View.{view};
+ghost use Rattle.hash_state.specs.Writes.{Write, Word, Bytes, le_bytes};
 
 use crate::combine::combine_hashes;
 use crate::hasher::{BuildHasher, HashState, Hasher};
@@ -310,8 +310,8 @@ impl PlainValue for Binary<'_> {
     }
 }
 
-// A view, by its own 16 bytes as two words, the low one first, where they hold what is viewed (up to 12 bytes),
-// and else by the bytes that it views.
+// A view, by its own 16 bytes as two words, the low one first, where they hold what is viewed (up to 12 bytes), and
+// else by the bytes that it views.
 #[derive(Clone, Copy)]
 pub enum View<'a> {
     Inline(u64, u64),

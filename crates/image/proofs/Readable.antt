@@ -37,6 +37,7 @@ rises f (suc n) step j h =
     ]
 
 module _ (bytes : List ℕ) (w : Width) (r : Record) (ordered : bad_offsets w bytes r ≡ false) where
+  -- a row's offset is not above the next
   pub step_up : (k : ℕ) → k < r.rows → offset w bytes r (r.start + k) ≤ offset w bytes r (r.start + k + 1)
   step_up k h =
       let bad : ℕ → Bool = λ k. negative w (element w bytes r.a (r.start + k + 1)) || ltb (element w bytes r.a (r.start + k + 1)) (element w bytes r.a (r.start + k)) in
@@ -73,6 +74,7 @@ module _ (bytes : List ℕ) (node row : ℕ) (r : Record) (headed : Headed bytes
   bytes_there w ordered inside reached =
       span_there bytes w r ordered (ltb-false (length bytes) (r.a + wide w * (elements r + 1)) inside) (ltb-false (length bytes) (r.b + last_offset w bytes r) reached) row there
 
+  -- the value or the bytes of a row can be read
   pub readable : (t : DataType) → Passed bytes node t r → Readable t bytes r row
   readable Null p = tt
   readable Boolean p = let e = ltb-false (length bytes) (r.a + bitmap_bytes (elements r)) (values Boolean p) in omega arith
@@ -90,10 +92,11 @@ module _ (bytes : List ℕ) (node row : ℕ) (r : Record) (headed : Headed bytes
   readable (FixedSizeList s) p = tt
   readable (RunEnd w) p = tt
 
+  -- the bitmap, where NULLS is read, holds the bit of a row
   pub bit_there : (t : DataType) → Passed bytes node t r → reads_nulls t ≡ true → HoldsBit bytes r row
   bit_there t p reads = bit_held bytes r row there (rw reads at (bitmap_passed bytes t r p.inside))
 
--- so can a row of a sound image
+-- a row of a sound image can be read, and so can its mark
 pub row_readable : (bytes : List ℕ) → sound bytes ≡ true → (node row : ℕ) (r : Record) (t : DataType) → r ≡ record_at bytes node → Some t ≡ data_type r
     → node < nodes bytes → row < r.rows → (reads_nulls t ≡ true → HoldsBit bytes r row) × Readable t bytes r row
 row_readable bytes is-sound node row r t read typed h there =

@@ -17,10 +17,11 @@ use Rattle.image.specs.Slot.{Slot, null, nothing, boolean, number, float, text, 
 abbrev pub part : List ℕ → ℕ → ℕ → List ℕ
 part bytes place size = take size (drop place bytes)
 
--- an offset of a node, and how far it is to the next
+-- an offset of a node
 abbrev pub offset : Width → List ℕ → Record → ℕ → ℕ
 offset w bytes r k = element w bytes r.a k
 
+-- how far it is from an offset to the next
 abbrev pub span : Width → List ℕ → Record → ℕ → ℕ
 span w bytes r k = offset w bytes r (k + 1) - offset w bytes r k
 

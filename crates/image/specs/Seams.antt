@@ -15,7 +15,7 @@ SpanThere w bytes r at =
     × (offset w bytes r at ≤ offset w bytes r (at + 1))
     × (r.b + offset w bytes r (at + 1) ≤ length bytes)
 
--- the value or the bytes of a row, by its type
+-- the value or the bytes of a row can be read, by its type
 abbrev pub Readable : DataType → List ℕ → Record → ℕ → Type 0
 Readable Null bytes r row = Unit {0}
 Readable Boolean bytes r row = r.a + (r.start + row) / 8 < length bytes

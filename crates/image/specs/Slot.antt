@@ -3,6 +3,7 @@ use Rattle.std.specs.Prelude.{ℕ, Bool, List, [], ◌∷◌}
 
 infixr 50 ◌⨾◌
 mutual
+  -- what a row holds: a null mark, nothing, a value, or slots of other rows
   pub data Slot : Type 0 where
     -- a row that its node's own bitmap marks null
     null : Slot

@@ -26,7 +26,7 @@ pub data Value : Type 0 where
   a_view : ℕ → List ℕ → Value
   kind_alone : ℕ → DataType → Value
 
--- a slot of a node of a kind and a type, whose bytes, if it has any, stand at a place
+-- what is handed out of a slot, of a node of a kind and a type; its bytes, if it has any, stand at a place
 abbrev pub handed_out : ℕ → DataType → ℕ → Slot → Value
 handed_out kind t place null = null_mark
 handed_out kind t place nothing = kind_alone kind t
@@ -76,15 +76,16 @@ value_answer bytes node row =
 abbrev pub node_record : List ℕ → ℕ → Option Record
 node_record bytes node = cond (nat_lt node (nodes bytes)) (Some (record_at bytes node)) None
 
--- the node number of a child, where there is such a child
+-- the node number of a child, where there is a record and it has such a child
 abbrev pub child_of : List ℕ → Option Record → ℕ → Option ℕ
 child_of bytes None index = None
 child_of bytes (Some r) index = cond (nat_lt index (child_count (data_type r) r)) (Some (child bytes r index)) None
 
+-- the node number of a node's child, where there are such a node and such a child
 abbrev pub node_child : List ℕ → ℕ → ℕ → Option ℕ
 node_child bytes node index = child_of bytes (node_record bytes node) index
 
--- the cases of the reader's enum
+-- what a value says that the slot reader hands out
 abbrev pub told : SlotValue → Value
 told variant.Null = null_mark
 told (variant.Boolean b) = a_boolean b
@@ -100,7 +101,7 @@ abbrev pub refusal : SlotFault → ℕ
 refusal NoNode = 13
 refusal NoRow = 17
 
--- an answer of the slot reader, by its cases
+-- what an answer of the slot reader says
 abbrev pub answered : Result SlotValue SlotFault → Result Value ℕ
 answered (Ok value) = Ok (told value)
 answered (Err fault) = Err (refusal fault)

@@ -1,7 +1,8 @@
+// Admission to the image place, and the nodes of the image in it.
+ghost use Rattle.std.specs.Prelude.{◌≡◌, [], MatchResult};
 ghost use Rattle.admission.specs.FirstFault.{fault_of, first_fault};
 ghost use Rattle.image.specs.Values.{node_child, node_record};
 ghost use Rattle.layout.specs.Records.{nodes};
-ghost use Rattle.std.specs.Prelude.{◌≡◌, [], MatchResult};
 
 use crate::place::Image;
 use admission::check::check_image;

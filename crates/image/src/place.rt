@@ -1,5 +1,6 @@
-ghost use Rattle.admission.specs.FirstFault.{sound};
+// The image place, and the bytes in it.
 ghost use Rattle.std.specs.Prelude.{◌≡◌, true};
+ghost use Rattle.admission.specs.FirstFault.{sound};
 
 // A place for an image: the empty image, or bytes that admission has found without a fault.
 #[derive(Clone, Copy)]

@@ -1,11 +1,11 @@
 // The slot reader: an admitted image is read without a test.
 ghost use Rattle.std.specs.Prelude.{◌≡◌, ℕ, ◌+◌, ◌*◌, ◌≤◌, true, false, ◌&&◌, length};
+ghost use Rattle.admission.specs.Seams.{ViewThere};
 ghost use Rattle.image.specs.Levels.{DeepEnough};
 ghost use Rattle.image.specs.Read.{offset, part, span, typed_slot, unmarked, view_bytes_place};
 ghost use Rattle.image.specs.Seams.{Readable, SpanThere};
 ghost use Rattle.image.specs.Slot.{Slot};
 ghost use Rattle.image.specs.Values.{answered, bytes_place, handed_out, told, value_answer};
-ghost use Rattle.admission.specs.Seams.{ViewThere};
 ghost use Rattle.layout.specs.Nodes.{HoldsBit, marked, reads_nulls};
 ghost use Rattle.layout.specs.Types.{kind_of};
 ghost use Rattle.layout.specs.Views.{view_length, view_place};

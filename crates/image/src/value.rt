@@ -1,6 +1,6 @@
 // What the slot reader answers.
-ghost use Rattle.image.specs.Values.{refusal};
 ghost use Rattle.std.specs.Prelude.{◌≡◌};
+ghost use Rattle.image.specs.Values.{refusal};
 
 use layout::bytes::Width;
 use layout::data_type::DataType;

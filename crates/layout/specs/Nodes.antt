@@ -1,4 +1,4 @@
--- What a node's record points to: children, bitmaps, elements, views.
+-- What a node's record points to: children, bitmaps, elements.
 use Rattle.std.specs.Prelude.{◌≡◌, ℕ, zero, suc, ◌+◌, ◌*◌, ◌/◌, ◌<◌, ◌≤◌, Bool, true, false, not, ◌&&◌, ◌||◌, List, length, Some, None, Option, ◌==◌}
 use Rattle.layout.specs.declared.bytes.Width.{Width}
 use Rattle.layout.specs.declared.record.Record.{Record}

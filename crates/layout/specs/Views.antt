@@ -15,19 +15,22 @@ view_length bytes view = field 4 bytes view
 abbrev pub is_long : List ℕ → ℕ → Bool
 is_long bytes view = nat_lt 12 (view_length bytes view)
 
--- of a long view: its first four bytes, the number of its data buffer, and its offset there
+-- the first four bytes of a long view's content, as the view itself has them
 abbrev pub view_prefix : List ℕ → ℕ → ℕ
 view_prefix bytes view = field 4 bytes (view + 4)
 
+-- the number of the data buffer that has a long view's content
 abbrev pub view_buffer : List ℕ → ℕ → ℕ
 view_buffer bytes view = field 4 bytes (view + 8)
 
+-- where in that data buffer a long view's content begins
 abbrev pub view_offset : List ℕ → ℕ → ℕ
 view_offset bytes view = field 4 bytes (view + 12)
 
--- a data buffer is a pair of TAB: its place and its length
+-- the place of a data buffer, by its pair in TAB
 abbrev pub buffer_place : List ℕ → Record → ℕ → ℕ
 buffer_place bytes r k = field 4 bytes (r.tab + 8 * k)
 
+-- how many bytes a data buffer has, by its pair in TAB
 abbrev pub buffer_length : List ℕ → Record → ℕ → ℕ
 buffer_length bytes r k = field 4 bytes (r.tab + 8 * k + 4)

@@ -1,7 +1,7 @@
 // The type of a column, by the Arrow Columnar Format.
+ghost use Rattle.std.specs.Prelude.{◌≡◌};
 ghost use Rattle.layout.specs.Nodes.{child_count, listed, reads_nulls, table};
 ghost use Rattle.layout.specs.Types.{data_type, kind_of, width};
-ghost use Rattle.std.specs.Prelude.{◌≡◌};
 
 use crate::bytes::Width;
 use crate::record::Record;
@@ -26,8 +26,8 @@ pub enum DataType {
     RunEnd(Width),
 }
 
-// What a node's TAB lists: children, of which there are so many at least and at most, or places
-// and lengths of data buffers, of which there are so many at most.
+// What a node's TAB lists: children, of which there are so many at least and at most, or places and lengths of data
+// buffers, of which there are so many at most.
 #[derive(Clone, Copy)]
 pub enum Table {
     Unread,

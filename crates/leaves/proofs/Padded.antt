@@ -2,8 +2,6 @@
 use Rattle.std.proofs.Common.{◌≡◌, ℕ, zero, suc, ◌+◌, ◌-◌, ◌*◌, ◌^◌, ◌<◌, ◌≤◌, Bool, true, false, cond, not, ◌&&◌, eqb, leb, List, [], ◌∷◌, length, get_or, take, drop, sym, refl, ap, ◌∙◌, subst, ap₂, inl, inr, arith}
 use Rattle.std.proofs.lemmas.List.{at_drop_more, drop_all, drop-drop, drop-take, length-drop, length-take-le, take_all, take-take}
 use Rattle.std.proofs.lemmas.Bool.{cases_lt, cond-false, cond-true, eqb-true, le-leb, le-ltb, lt-leb, lt-ltb, not-false}
-use Rattle.hash_state.specs.Values as tell
-use Rattle.hash_state.specs.Writes.{Pair}
 use Rattle.layout.specs.Bytes.{field}
 use Rattle.layout.specs.declared.record.Record.{Record}
 use Rattle.layout.specs.Nodes.{marked}
@@ -11,6 +9,8 @@ use Rattle.layout.specs.Views.{buffer_place, is_long, view_buffer, view_length, 
 use Rattle.admission.specs.Rejections.{bad_padding, bad_prefix, bad_view}
 use Rattle.admission.specs.Seams.{ViewThere}
 use Rattle.admission.proofs.Below.{none_at}
+use Rattle.hash_state.specs.Values as tell
+use Rattle.hash_state.specs.Writes.{Pair}
 use Rattle.image.specs.Read.{part, view_bytes_place}
 use Rattle.row_rule.specs.Number.{le_number, view_writes}
 
@@ -83,6 +83,7 @@ module _ (bytes : List ℕ) (v : ℕ) (inside : v + 16 ≤ length bytes) (short 
       behind : (k : ℕ) → size ≤ k + 4 → k < 8 → get_or bytes (v + 8 + k) 0 ≡ 0
       behind k a b = subst (λ (j : ℕ). get_or bytes j 0 ≡ 0) (omega arith) (zeros (k + 4) a (omega arith))
 
+  -- a short view is told by its own 16 bytes, as two words
   pub inline_writes : Pair (field 8 bytes v) (field 8 bytes (v + 8)) ∷ [] ≡ view_writes own
   inline_writes =
       let long : length own ≡ size = length-part bytes (v + 4) size (omega arith) in
@@ -109,6 +110,7 @@ module _ (bytes : List ℕ) (r : Record) (row : ℕ) (there : ViewThere bytes r 
   size_is : size ≡ view_length bytes v
   size_is = sized ∙ ap (view_length bytes) placed
 
+  -- of a short one, the two words that are its 16 bytes
   pub inline_told : (low high : ℕ) → size ≤ 12 → low ≡ field 8 bytes place → high ≡ field 8 bytes (place + 8) → Pair low high ∷ [] ≡ view_writes viewed
   inline_told low high short l h =
       let few : view_length bytes v ≤ 12 = subst (λ (n : ℕ). n ≤ 12) size_is short in
@@ -119,6 +121,7 @@ module _ (bytes : List ℕ) (r : Record) (row : ℕ) (there : ViewThere bytes r 
       ∙ inline_writes bytes v there.1 few pad
       ∙ ap (λ (p : ℕ). view_writes (part bytes p (view_length bytes v))) (sym (cond-false (is_long bytes v) _ (v + 4) is-short))
 
+  -- of a long one, its bytes as binary
   pub long_told : (start : ℕ) → 12 < size → start ≡ buffer_place bytes r (view_buffer bytes place) + view_offset bytes place
       → tell.binary (part bytes start (start + size - start)) ≡ view_writes viewed
   long_told start long d =

@@ -1,12 +1,12 @@
 -- What a value tells, by the kind of its slot.
 use Rattle.std.proofs.Common.{◌≡◌, ℕ, ◌+◌, Bool, true, false, ◌&&◌, List, sym, refl, ◌∙◌}
+use Rattle.layout.specs.declared.record.Record.{Record}
+use Rattle.layout.specs.declared.data_type.DataType.{DataType}
+use Rattle.layout.specs.Nodes.{marked, reads_nulls}
 use Rattle.hash_state.specs.Values as tell
 use Rattle.hash_state.specs.Writes.{Write}
 use Rattle.image.specs.Read.{typed_slot, unmarked}
 use Rattle.image.specs.Slot.{Slot, null, nothing, boolean, number, float, text, binary, view}
-use Rattle.layout.specs.Nodes.{marked, reads_nulls}
-use Rattle.layout.specs.declared.record.Record.{Record}
-use Rattle.layout.specs.declared.data_type.DataType.{DataType}
 use Rattle.row_rule.specs.Number.{number_of, view_writes}
 use Rattle.leaves.specs.Tells.{Tells}
 

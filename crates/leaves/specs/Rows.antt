@@ -32,7 +32,7 @@ is_leaf Map = false
 is_leaf (FixedSizeList p) = false
 is_leaf (RunEnd w) = false
 
--- the row that word j meets: one of a list, or one of a run of rows
+-- the row that word j meets: the one that a list names, or row lo + j
 abbrev pub row_of : ℕ → Option (Bor (List ℕ)) → ℕ → ℕ
 row_of lo None j = lo + j
 row_of lo (Some list) j = slice_index list.now j

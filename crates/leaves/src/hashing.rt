@@ -42,7 +42,7 @@ impl<'a, S: HashState> Hashing<'a, '_, S> {
                 continue;
             }
             let value = reader.value(&self.column, row);
-            // hash_entry says the same, and takes a sixth more time over first texts under FNV-1a.
+            // hash_entry says the same, and takes a sixth more time over first texts under FNV-1a
             *entry = if self.first {
                 value.hash_one(self.state)
             } else {

@@ -48,14 +48,14 @@ pub fn hash_leaf<S: HashState>(
         DataType::Number(Width::Two) => hashing.run(&Numbers(PhantomData::<u16>), entries),
         DataType::Number(Width::Four) => hashing.run(&Numbers(PhantomData::<u32>), entries),
         DataType::Number(Width::Eight) => hashing.run(&Numbers(PhantomData::<u64>), entries),
-        // No float has one byte.
+        // no float has one byte
         DataType::Float(Width::One) => unreachable(),
         DataType::Float(Width::Two) => hashing.run(&Floats(PhantomData::<u16>), entries),
         DataType::Float(Width::Four) => hashing.run(&Floats(PhantomData::<u32>), entries),
         DataType::Float(Width::Eight) => hashing.run(&Floats(PhantomData::<u64>), entries),
         DataType::Utf8(Width::Four) => hashing.run(&Texts(PhantomData::<u32>), entries),
         DataType::Utf8(Width::Eight) => hashing.run(&Texts(PhantomData::<u64>), entries),
-        // No offset has one byte or two.
+        // no offset has one byte or two
         DataType::Utf8(Width::One) => unreachable(),
         DataType::Utf8(Width::Two) => unreachable(),
         DataType::Binary(Width::One) => unreachable(),

@@ -34,13 +34,13 @@ is_null (entries es) = false
 abbrev pub combined : Bool → ℕ → ℕ → ℕ
 combined first e v = cond first v (C v e)
 
--- ONE of the writes when first; when later, SEED with the entry, which may be told otherwise
 module _ (ONE : List Write → ℕ) (SEED : ℕ → List Write → ℕ) where
+  -- the number of a value that seeds: ONE of its writes when first, SEED of the entry and its writes under SEED when later
   abbrev pub seeded : Bool → ℕ → List Write → List Write → ℕ
   seeded first e one seed = cond first (ONE one) (SEED e seed)
 
   unfoldable mutual
-    -- from entry e, first or later
+    -- the number that entry e comes to at a slot, first or later
     pub number_of : Bool → ℕ → Slot → ℕ
     number_of first e null = e
     number_of first e nothing = combined first e (ONE tell.nothing)

@@ -6,10 +6,11 @@ use Rattle.hash_state.specs.Writes.{Write, joined}
 use Rattle.image.specs.Slot.{Slot, null, nothing, boolean, number, float, text, binary, view, refer, struct, sequence, entries, done, ◌⨾◌, none, entry}
 use Rattle.row_rule.specs.Number.{number_of}
 
--- what Z comes to from an entry or a seed
+-- what Z comes to from a start, which is 0 or a seed
 abbrev pub Z : ℕ → List Write → ℕ
 Z start ws = fnv1a start (joined ws)
 
+-- the row rule's number under Z
 abbrev pub by_z : Bool → ℕ → Slot → ℕ
 by_z = number_of (Z 0) Z
 

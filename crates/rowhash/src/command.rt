@@ -14,8 +14,7 @@ pub enum Command<'a> {
 }
 
 impl<'a> Command<'a> {
-    // The command of a line, or none where it is not understood. Blanks part words, and a path may
-    // have some within it.
+    // The command of a line, or none where it is not understood. Blanks part words, and a path may have some within it.
     // No `FromStr`: an image's bytes and lists need the heap.
     pub(crate) fn parse(heap: Global, line: &'a str) -> Result<Option<Command<'a>>, AllocError> {
         let line = line.trim_ascii();

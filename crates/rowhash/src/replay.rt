@@ -1,7 +1,7 @@
 // Commands from standard input, each answered by one line.
+ghost use Rattle.std.specs.Prelude.{◌≡◌, IfOk};
 ghost use Rattle.admission.specs.FirstFault.{fault_of, first_fault};
 ghost use Rattle.layout.specs.Records.{nodes};
-ghost use Rattle.std.specs.Prelude.{◌≡◌, IfOk};
 
 use crate::answer::{Answer, Words};
 use crate::command::Command;
@@ -22,8 +22,8 @@ struct Session<'a> {
     image: Image<'a>,
 }
 
-// Begins with no bytes, which are no image, so that the empty one stands. An image borrows its
-// bytes, so each has a session of its own, until another is accepted. The run goes on through all.
+// Begins with no bytes, which are no image, so that the empty one stands. An image borrows its bytes, so each has a
+// session of its own, until another is accepted. The run goes on through all.
 pub(crate) fn replay(rt: &HostRuntime) -> io::Result<()> {
     let mut input = BufReader::new(rt.alloc(), rt.stdin())?;
     let mut bytes = Vec::new(rt.alloc());

@@ -4,8 +4,8 @@ use crate::state::ChosenState;
 use std::alloc::{AllocError, Global};
 use std::str::SplitAsciiWhitespace;
 
-// The most words of entries or of work that can be lent, 128 MiB: no call asks for more. A run has at most
-// 1,048,576 rows, and below a column stand at most 15 levels of nodes, each of at most 1,048,576 rows.
+// The most words of entries or of work that can be lent, 128 MiB: no call asks for more. A run has at most 1,048,576
+// rows, and below a column stand at most 15 levels of nodes, each of at most 1,048,576 rows.
 const MAX_WORDS: u64 = 1 << 24;
 
 #[derive(Drop)]

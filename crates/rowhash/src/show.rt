@@ -10,8 +10,8 @@ use std::io::{BufWriter, Stdout, Write};
 use std::{fmt, io};
 use summary::null_count;
 
-// A node's line: its number, its type, its rows and start, how many rows are marked null, and the
-// numbers of its children.
+// A node's line: its number, its type, its rows and start, how many rows are marked null, and the numbers of its
+// children.
 #[derive(Clone, Copy)]
 struct NodeShown<'a, 'b> {
     image: Image<'a>,

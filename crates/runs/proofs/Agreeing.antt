@@ -60,6 +60,7 @@ module _ (ONE : List Write → ℕ) (SEED : ℕ → List Write → ℕ) where
   holds_entered j [] = tt
   holds_entered j (e ∷ entries) = (refl, refl, holds_entered (j + 1) entries)
 
+  -- begin's ledger agrees with the run that begin gives
   pub agrees_begun : (entries : List ℕ) → Agrees ONE SEED (begun entries) (begun_state (length entries) entries)
   agrees_begun entries = record { rows = sym (length-entered 0 entries); count = refl; holds = holds_entered 0 entries }
 
@@ -69,6 +70,7 @@ module _ (ONE : List Write → ℕ) (SEED : ℕ → List Write → ℕ) where
   holds_taken j (suc n) [] = tt
   holds_taken j (suc n) (w ∷ words) = (refl, refl, holds_taken (j + 1) n words)
 
+  -- begin's ledger agrees also where more words stand behind those that begin took
   pub agrees_taken_words : (rows : ℕ) (words : List ℕ) → rows ≤ length words → Agrees ONE SEED (begun (take rows words)) (begun_state rows words)
   agrees_taken_words rows words h =
       record { rows = sym (length-entered 0 (take rows words) ∙ length-take-le rows words h); count = refl; holds = holds_taken 0 rows words }

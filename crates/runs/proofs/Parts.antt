@@ -84,12 +84,14 @@ module _ (st : Stage) (lent rest words : List ℕ) (whole : lent ++ rest ≡ wor
   fit : room_of q ≡ length (stage_run st lent).words
   fit = room ∙ ap length (sym (stage_words st lent))
 
+  -- a call that is lent the first is answered as one that is lent all
   pub part_told : told (stage_run st lent) q ≡ told (stage_run st words) q
   part_told =
       told_widened (stage_run st lent) rest q fit
       ∙ ap (λ (s : State). told s q) (sym (stage_widened st lent rest))
       ∙ ap (λ (v : List ℕ). told (stage_run st v) q) whole
 
+  -- and it leaves the same, with the rest as it was
   pub part_step : (ONE : List Write → ℕ) (SEED : ℕ → List Write → ℕ) (st' : Stage) (words' : List ℕ) → stage_run st' words' ≡ step ONE SEED (stage_run st lent) q
       → stage_run st' (words' ++ rest) ≡ step ONE SEED (stage_run st words) q
   part_step ONE SEED st' words' e =

@@ -27,11 +27,12 @@ reordered lent rows [] = keep (map (λ r. r.origin) rows) lent ∷ []
 reordered lent rows (c ∷ columns) =
     reordered lent (map earlier rows) columns ++ column c (Some (map (λ r. latest_at r.met) rows)) lent ∷ []
 
--- enough entries for the rows before and after the keep, and work for the keep and each column
+-- enough unclaimed work for each column
 abbrev pub EnoughWork : Lent → List Column → Type 0
 EnoughWork lent [] = Unit {0}
 EnoughWork lent (c ∷ columns) = (column_need c ≤ unclaimed lent) × EnoughWork lent columns
 
+-- enough entries for the rows before and after the keep, and enough unclaimed work for the keep and each column
 pub record Enough (lent : Lent) (begun : ℕ) (l : Ledger) : Type 0 where
   pub before : begun ≤ lent.entries
   pub after : length l.rows ≤ lent.entries

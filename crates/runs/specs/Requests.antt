@@ -9,7 +9,7 @@ pub data Request : Type 0 where
   keep : List ℕ → Lent → Request
   read : ℕ → ℕ → Request
 
--- a read that is accepted is answered by the row's number and the count of accepted columns
+-- an accepted column or keep; a refusal by its number; of a read, the row's number and the count of accepted columns
 pub data Reply : Type 0 where
   accepted : Reply
   refused : ℕ → Reply

@@ -6,7 +6,7 @@ use Rattle.layout.specs.Nodes.{typed_mark}
 use Rattle.layout.specs.Types.{data_type}
 use Rattle.image.specs.Values.{node_record}
 
--- whether a row is marked null
+-- whether a row of a node is marked null
 abbrev pub is_null : List ℕ → Record → ℕ → Bool
 is_null bytes r row = typed_mark (data_type r) bytes r row
 

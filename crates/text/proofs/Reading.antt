@@ -52,6 +52,7 @@ pairs_end ds i rest acc all r n =
     ap (λ (xs : List ℕ). option_map (λ bs. acc ++ bs) (bytes_value xs)) (ap (λ (k : ℕ). drop k ds) place ∙ sym r)
     ∙ last_pair acc rest (omega arith)
 
+-- to map what a condition lets through is to let through what is mapped
 pub option_map-then_some : {A B : Type 0} (f : A → B) (b : Bool) (x : A) → option_map f (then_some b x) ≡ then_some b (f x)
 option_map-then_some f true x = refl
 option_map-then_some f false x = refl

@@ -1,9 +1,9 @@
 // Numbers and bytes as text has them.
 #![tactic(auto)]
 
-ghost use Rattle.text.specs.Text.{byte_value, bytes_value, digit_value, number_value, numeral_value, with_digit};
 ghost use Rattle.std.specs.Prelude.{◌≡◌, ◌≤◌, IfOk, vec_items};
 ghost use Rattle.std.specs.Option.{option_map};
+ghost use Rattle.text.specs.Text.{byte_value, bytes_value, digit_value, number_value, numeral_value, with_digit};
 
 use std::alloc::{AllocError, Global};
 use std::fmt;
@@ -49,8 +49,7 @@ fn with_digit(base: u32, value: u64, digit: u8) -> Option<u64>
         .checked_add(u64::from(next))
 }
 
-// The number that digits write, or none where there is no digit, something else, or a number that
-// does not fit.
+// The number that digits write, or none where there is no digit, something else, or a number that does not fit.
 fn numeral(base: u32, digits: &[u8]) -> Option<u64>
     requires at_least { 2 ≤ base }
     requires at_most { base ≤ 16 }

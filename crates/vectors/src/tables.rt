@@ -20,9 +20,9 @@ pub const FNV1A: [(&[u8], u64); 16] = [
     (b"chongo was here!\n", 0x46810940eff5f915),
 ];
 
-// The table vectors_sip64 of SipHash's reference implementation: the hash of the bytes 0, 1, .. n - 1 for n from
-// 0 to 63, under the key of the bytes 0 to 15. Here it was written out by Rust's std::hash::SipHasher and, with the
-// same outcome, by a separate program in Python.
+// The table vectors_sip64 of SipHash's reference implementation: the hash of the bytes 0, 1, .. n - 1 for n from 0 to
+// 63, under the key of the bytes 0 to 15. Here it was written out by Rust's std::hash::SipHasher and, with the same
+// outcome, by a separate program in Python.
 pub const SIPHASH: [u64; 64] = [
     0x726fdb47dd0e0e31,
     0x74f839c593dc67fd,

@@ -1,8 +1,8 @@
 // Hashers under one key.
 ghost use Rattle.std.specs.Prelude.{◌≡◌};
-ghost use Rattle.hash_state.specs.Writes.{joined};
-ghost use Rattle.hash_state.specs.Sip.{siphash};
 ghost use Rattle.hash_state.specs.Rounds.{finalize_below};
+ghost use Rattle.hash_state.specs.Sip.{siphash};
+ghost use Rattle.hash_state.specs.Writes.{joined};
 
 use super::SipHasher;
 use super::rounds::State;

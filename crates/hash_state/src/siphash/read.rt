@@ -51,6 +51,6 @@ pub(crate) fn end(bytes: &[u8; 8], count: usize) -> u64
     ensures low { result < 2 ^ (8 * count) }
     ensures same { le_bytes count result ≡ drop (8 - count) bytes.now }
 {
-    // Two shifts, since one by 64 is none at all.
+    // two shifts, since one by 64 is none at all
     (word(bytes) >> (56 - 8 * count)) >> 8
 }

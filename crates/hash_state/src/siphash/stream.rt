@@ -5,8 +5,8 @@ use crate::hasher::Hasher;
 
 impl SipHasher {
     ghost use Rattle.std.specs.Prelude.{◌≡◌, ℕ, ◌+◌, ◌*◌, ◌%◌, ◌^◌, ◌<◌, ◌≤◌, List, ◌++◌};
-    ghost use Rattle.hash_state.specs.Writes.{le_bytes};
     ghost use Rattle.hash_state.specs.Stream.{told};
+    ghost use Rattle.hash_state.specs.Writes.{le_bytes};
 
     // The hasher once it was told the low `width` bytes of `v`.
     fn pushed(self, width: u64, v: u64) -> SipHasher
@@ -43,7 +43,7 @@ impl SipHasher {
             return;
         };
         let (words, rest) = bytes.as_chunks::<8>();
-        // The words come last, so that the loop over them holds little besides the state.
+        // the words come last, so that the loop over them holds little besides the state
         self.tail = end(last, rest.len());
         self.state = self.state.through(words);
     }
@@ -66,8 +66,8 @@ impl SipHasher {
 }
 
 impl Hasher for SipHasher {
-    ghost use Rattle.hash_state.specs.Writes.{joined};
     ghost use Rattle.hash_state.specs.Stream.{told};
+    ghost use Rattle.hash_state.specs.Writes.{joined};
 
     ghost meaning = { λ h ws. told h (joined ws) };
 
