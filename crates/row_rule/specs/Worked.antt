@@ -60,15 +60,15 @@ NumbersOfKinds =
     ∷ by_z false 7 (refer null)
     ∷ by_z true 7 (refer (number 1 1))
     ∷ by_z false 1 (refer (number 1 1))
-    ∷ by_z true 7 (struct (number 1 1 ⨾ boolean true ⨾ number 1 1 ⨾ done))
-    ∷ by_z false 7 (struct (number 1 1 ⨾ boolean true ⨾ number 1 1 ⨾ done))
-    ∷ by_z true 7 (sequence (number 1 1 ⨾ number 1 2 ⨾ done))
-    ∷ by_z false 7 (sequence (number 1 1 ⨾ number 1 2 ⨾ done))
-    ∷ by_z true 7 (entries (entry (number 1 1) (number 1 2) none))
-    ∷ by_z false 7 (entries (entry (number 1 1) (boolean true) (entry (number 1 2) null none)))
+    ∷ by_z true 7 (struct (boolean true ⨾ number 1 1 ⨾ boolean true ⨾ done))
+    ∷ by_z false 7 (struct (boolean true ⨾ number 1 1 ⨾ boolean true ⨾ done))
+    ∷ by_z true 7 (sequence (boolean true ⨾ boolean false ⨾ done))
+    ∷ by_z false 7 (sequence (boolean true ⨾ boolean false ⨾ done))
+    ∷ by_z true 7 (entries (entry (boolean true) (number 1 2) none))
+    ∷ by_z false 7 (entries (entry (boolean true) (boolean true) (entry (boolean false) null none)))
     ∷ [])
     ≡ (11527715348014283921 ∷ 2250354181208841189 ∷ 1099511628211 ∷ 956575116354345 ∷ 0 ∷ 65970697692660 ∷ 916992697738749
     ∷ 92604167844460228 ∷ 3426354210245051714 ∷ 10622430616380713664 ∷ 5648307258185844910
     ∷ 5984138530507203056 ∷ 17191611703643831057 ∷ 3938342635625432200 ∷ 6088072389479637981 ∷ 2194587453236361088 ∷ 4269486303836246239
-    ∷ 7 ∷ 7 ∷ 1099511628211 ∷ 40681930267081 ∷ 61937689033215034 ∷ 61937689033215034
-    ∷ 42880954394186 ∷ 42880954394186 ∷ 954376093121455 ∷ 1548112374276146 ∷ [])
+    ∷ 7 ∷ 7 ∷ 1099511628211 ∷ 40681930267081 ∷ 996157535016746 ∷ 996157535016746
+    ∷ 40681931137764 ∷ 40681931137764 ∷ 954376093121455 ∷ 1545913351019724 ∷ [])
