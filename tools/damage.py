@@ -1,13 +1,15 @@
 #!/usr/bin/env python3
-"""Damages images at random and hands them to rowhash: an answer every time, never a crash, and all that is admitted hashes.
+"""Damages images at random and hands them to rowhash: an answer every time, no crash, and all that is admitted hashes.
 
     tools/damage.py [CASES [SEED]]     (10000 cases and seed 1 if left out)
 
 The images are those of crates/vectors/stdin and crates/rowhash/stdin. A case is one of them with some of its bytes
 or fields changed, cut off, moved or doubled. All cases go through `rowhash replay`, a few hundred to a process: each
-is admitted or refused, and of an admitted one each node with few rows is hashed in a run of its own, and its slots
-are asked for. Every line has to be answered by one line of the right form, within a time limit; a column that is lent
-enough has to be accepted. It ends with status 1 and the case's image where that is not so.
+is admitted or refused, and of an admitted one each node is hashed in a run of its own, all rows where there are few,
+else the first, the last and one between, and one of its slots is asked for. Every line has to be answered by one line
+of the right form, within a time limit; a column that is lent enough has to be accepted. Each 20th case goes through
+`rowhash hash` and `rowhash show` as a file, too: they have to end by themselves, and to agree with `replay` on
+whether the image is admitted. It ends with status 1 and the case's image where that is not so.
 """
 
 import random
@@ -15,13 +17,15 @@ import re
 import struct
 import subprocess
 import sys
+import tempfile
 from pathlib import Path
 
 ROOT = Path(__file__).resolve().parent.parent
 PROGRAM = ROOT / "rowhash"
 BATCH = 200
 SECONDS = 120
-MOST_ROWS = 40
+MOST_ROWS = 40  # of a node with more, three rows are hashed
+EACH = 20
 MOST_WORK = 15 * 2**20  # no column of an image needs more
 
 # the fields of a record, with values at the edges of what rejections ask of them
@@ -89,14 +93,16 @@ def nodes_of(image):
 def commands(image, chance):
     """The commands of a case; what of them is to be answered is told only if the image is admitted."""
     lines = [("image " + image.hex(), ADMITTED)]
-    for node, rows in nodes_of(image)[:12]:
+    for node, rows in nodes_of(image):
         lines.append((f"slot {node} {chance.randrange(rows + 2)}", SLOT))
-        if rows <= MOST_ROWS:
-            lines.append(("begin" + " 0" * rows, "accepted"))
-            lines.append((f"column {node}", "accepted"))
-            lines.append((f"column {node}", "accepted"))
-            if rows:
-                lines.append((f"read {chance.randrange(rows)}", re.compile(r"[0-9a-f]{16} 2")))
+        met = rows
+        column = f"column {node}"
+        if rows > MOST_ROWS:
+            met = 3
+            column += f" list 0 {chance.randrange(rows)} {rows - 1}"
+        lines += [("begin" + " 0" * met, "accepted"), (column, "accepted"), (column, "accepted")]
+        if met:
+            lines.append((f"read {chance.randrange(met)}", re.compile(r"[0-9a-f]{16} 2")))
     return lines
 
 
@@ -112,35 +118,56 @@ def check(case, image, lines, answers):
     return admitted
 
 
+def as_file(folder, case, image, admitted):
+    """Ends the program where `hash` or `show` does not end by itself, or says otherwise than `replay`."""
+    file = folder / "damaged.img"
+    file.write_bytes(image)
+    for name in ("hash", "show"):
+        try:
+            done = subprocess.run([PROGRAM, name, file], capture_output=True, text=True, timeout=SECONDS)
+        except subprocess.TimeoutExpired:
+            sys.exit(f"case {case}: {name} gave no answer within {SECONDS} seconds\nimage {image.hex()}")
+        refused = "refused" in done.stdout + done.stderr
+        if done.returncode not in (0, 1) or refused == admitted:
+            sys.exit(f"case {case}: {name} ended with {done.returncode}: {done.stderr[:300]}\nimage {image.hex()}")
+
+
+def replayed(start, batch, asked):
+    """The answers to the lines of all cases of a batch; ends the program where there are not as many as lines."""
+    text = f"work {MOST_WORK}\n" + "".join(line + "\n" for lines in asked for line, _ in lines)
+    try:
+        done = subprocess.run([PROGRAM, "replay"], input=text, capture_output=True, text=True, timeout=SECONDS)
+    except subprocess.TimeoutExpired:
+        sys.exit(f"cases {start} to {start + len(batch) - 1}: no answer within {SECONDS} seconds")
+    answers = done.stdout.splitlines()[1:]
+    left = len(answers)
+    for case, (image, lines) in enumerate(zip(batch, asked), start):
+        left -= len(lines)
+        if left < 0 or done.returncode != 0 and left == 0:
+            sys.exit(f"case {case}: status {done.returncode}: {done.stderr[:300]}\nimage {image.hex()}")
+    return answers
+
+
 def main():
     cases = int(sys.argv[1]) if len(sys.argv) > 1 else 10000
     chance = random.Random(int(sys.argv[2]) if len(sys.argv) > 2 else 1)
     images = good_images()
-    admitted = lines_in_all = 0
-    for start in range(0, cases, BATCH):
-        batch = [damage(chance.choice(images), chance) for _ in range(min(BATCH, cases - start))]
-        asked = [commands(image, chance) for image in batch]
-        text = f"work {MOST_WORK}\n" + "".join(line + "\n" for lines in asked for line, _ in lines)
-        try:
-            done = subprocess.run([PROGRAM, "replay"], input=text, capture_output=True, text=True, timeout=SECONDS)
-        except subprocess.TimeoutExpired:
-            sys.exit(f"cases {start} to {start + len(batch) - 1}: no answer within {SECONDS} seconds")
-        answers = done.stdout.splitlines()[1:]
-        if done.returncode != 0 or len(answers) != sum(map(len, asked)):
-            at = start
-            left = len(answers)
-            for lines in asked:
-                if left < len(lines):
-                    break
-                left -= len(lines)
-                at += 1
-            image = batch[min(at - start, len(batch) - 1)]
-            sys.exit(f"case {at}: status {done.returncode}: {done.stderr[:300]}\nimage {image.hex()}")
-        for number, (image, lines) in enumerate(zip(batch, asked), start):
-            admitted += check(number, image, lines, answers[:len(lines)])
-            answers = answers[len(lines):]
-            lines_in_all += len(lines)
-    print(f"{cases} damaged images, {admitted} of them admitted, {lines_in_all} lines: each was answered")
+    admitted = hashed = lines_in_all = 0
+    with tempfile.TemporaryDirectory() as folder:
+        for start in range(0, cases, BATCH):
+            batch = [damage(chance.choice(images), chance) for _ in range(min(BATCH, cases - start))]
+            asked = [commands(image, chance) for image in batch]
+            answers = replayed(start, batch, asked)
+            for case, (image, lines) in enumerate(zip(batch, asked), start):
+                accepted = check(case, image, lines, answers[:len(lines)])
+                answers = answers[len(lines):]
+                admitted += accepted
+                hashed += accepted * len(nodes_of(image))
+                lines_in_all += len(lines)
+                if case % EACH == 0:
+                    as_file(Path(folder), case, image, accepted)
+    print(f"{cases} damaged images, {admitted} of them admitted, all their {hashed} nodes hashed, {lines_in_all} lines: "
+          "each was answered")
 
 
 if __name__ == "__main__":

@@ -82,7 +82,7 @@ def owner_of(header):
 
 
 def bodies(text):
-    """The lines of function bodies, behind the brace that opens each, and constants: (function, number from 0, line)."""
+    """The lines of function bodies, behind the opening brace, and constants: (function, number from 0, line)."""
     owner, inside, depth, start = "", None, 0, None
     for number, line in enumerate(text.split("\n")):
         code = line.split("//")[0]
