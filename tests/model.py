@@ -325,6 +325,7 @@ FURTHER = [
     (Z, "later", 1, View(THIRTEEN), 4269486303836246239),
     (Z, "first", 7, Refer(Null()), 7),
     (Z, "later", 7, Refer(Null()), 7),
+    (Z, "first", 7, Refer(Nothing()), 11527715348014283921),
     (Z, "first", 7, Refer(BYTE), 1099511628211),
     (Z, "later", 1, Refer(BYTE), 40681930267081),
     (Z, "first", 7, MIXED, 996157535016746),
