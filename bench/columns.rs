@@ -4,6 +4,10 @@
 use std::hash::{Hasher, SipHasher};
 use std::hint::black_box;
 
+use shared::{Fnv, combine_hashes, finished};
+
+mod shared;
+
 unsafe extern "C" {
     // The C library's: clock 3 is the processor time of a thread.
     fn clock_gettime(clock: i32, now: &mut [i64; 2]) -> i32;
@@ -12,24 +16,6 @@ unsafe extern "C" {
 }
 
 const ROWS: usize = 1 << 20;
-
-/// A plain FNV-1a loop.
-#[derive(Clone, Copy)]
-struct Fnv(u64);
-
-impl Hasher for Fnv {
-    #[inline]
-    fn write(&mut self, bytes: &[u8]) {
-        for b in bytes {
-            self.0 = (self.0 ^ *b as u64).wrapping_mul(1099511628211);
-        }
-    }
-
-    #[inline]
-    fn finish(&self) -> u64 {
-        self.0
-    }
-}
 
 /// A hash state: hashers that are newly built, and hashers from a seed.
 trait State {
@@ -74,18 +60,6 @@ impl State for SipState {
     fn ours(&self, image: &[u8], first: bool, times: u64, entries: &mut [u64], work: &mut [u64]) -> bool {
         unsafe { rt_sip_column(self.0, self.1, image.as_ptr(), image.len(), 0, first, times, entries.as_mut_ptr(), entries.len(), work.as_mut_ptr(), work.len()) }
     }
-}
-
-#[inline]
-fn combine_hashes(l: u64, r: u64) -> u64 {
-    let hash = (17 * 37u64).wrapping_add(l);
-    hash.wrapping_mul(37).wrapping_add(r)
-}
-
-#[inline]
-fn finished<H: Hasher>(mut h: H, write: impl FnOnce(&mut H)) -> u64 {
-    write(&mut h);
-    h.finish()
 }
 
 /// The columns, as native slices.

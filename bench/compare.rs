@@ -2,7 +2,8 @@
 #![allow(deprecated)]
 use std::hash::{Hash, Hasher, SipHasher};
 
-use crate::{Bytes, Fnv, rt_fnv_kind, rt_sip_kind};
+use crate::shared::{Fnv, combine_hashes, finished};
+use crate::{Bytes, rt_fnv_kind, rt_sip_kind};
 
 pub const KINDS: [&str; 17] = [
     "bool", "u8", "u16", "u32", "u64", "float of 2 bytes", "float of 4 bytes", "float of 8 bytes", "str", "[u8]", "u128 (inline view)",
@@ -90,22 +91,12 @@ fn double_bits(low: u64) -> u64 {
     if f == 0.0 { 0 } else { low }
 }
 
-fn combine_hashes(l: u64, r: u64) -> u64 {
-    let hash = (17 * 37u64).wrapping_add(l);
-    hash.wrapping_mul(37).wrapping_add(r)
-}
-
-fn finish<H: Hasher>(mut h: H, write: impl Fn(&mut H)) -> u64 {
-    write(&mut h);
-    h.finish()
-}
-
 /// The numbers of one value by Rust: by itself, and in a later column from `entry`.
 fn rust<H: Hasher>(build: impl Fn() -> H, seeded: impl Fn(u64) -> H, kind: u8, low: u64, high: u64, part: &[u8], entry: u64) -> (u64, u64) {
-    let one = finish(build(), |h| write(kind, low, high, part, h));
+    let one = finished(build(), |h| write(kind, low, high, part, h));
     let later = match kind {
         0 | 8 | 9 | 12 => combine_hashes(one, entry),
-        _ => finish(seeded(entry), |h| write_seeded(kind, low, high, part, h)),
+        _ => finished(seeded(entry), |h| write_seeded(kind, low, high, part, h)),
     };
     (one, later)
 }

@@ -4,7 +4,10 @@ use std::hash::{Hasher, SipHasher};
 use std::hint::black_box;
 use std::time::Instant;
 
+use shared::Fnv;
+
 mod compare;
+mod shared;
 
 pub type Bytes = [u8; 16384];
 
@@ -15,22 +18,6 @@ unsafe extern "C" {
     fn rt_sip_strings(k0: u64, k1: u64, bytes: &Bytes, len: u64, n: u64) -> u64;
     fn rt_fnv_kind(start: u64, later: u64, entry: u64, kind: u8, low: u64, high: u64, bytes: &Bytes) -> u64;
     fn rt_sip_kind(k0: u64, k1: u64, later: u64, entry: u64, kind: u8, low: u64, high: u64, bytes: &Bytes) -> u64;
-}
-
-/// A plain FNV-1a loop.
-pub struct Fnv(pub u64);
-
-impl Hasher for Fnv {
-    #[inline]
-    fn write(&mut self, bytes: &[u8]) {
-        for b in bytes {
-            self.0 = (self.0 ^ *b as u64).wrapping_mul(1099511628211);
-        }
-    }
-
-    fn finish(&self) -> u64 {
-        self.0
-    }
 }
 
 #[inline]

@@ -33,13 +33,11 @@ from images import (  # noqa: E402
     Builder, bits, children, image, little, long_view, pairs, record, short_view,
 )
 from model import (  # noqa: E402
-    Boolean, Float, Map, Nothing, Null, Number, Refer, Sequence, Struct, Text,
+    U64, Boolean, Float, Map, Nothing, Null, Number, Refer, Sequence, Struct, Text,
 )
-from runs import Column, Replay  # noqa: E402
+from runs import MOST_ROWS, Column, Replay  # noqa: E402
 
-MOST_ROWS = 1_048_576
-U32 = 0xFFFF_FFFF
-U64 = 0xFFFF_FFFF_FFFF_FFFF
+U32 = 2**32 - 1
 
 commands = []  # the lines of stdin that are answered
 answers = []  # the lines of stdout
@@ -69,12 +67,12 @@ def slot(node, row, answer):
     line(f"slot {node} {row}", answer)
 
 
-ledger = Replay()
+replay = Replay()
 
 
 def run(command, answer=None):
     """A command of a run with the ledger's answer, which is the one given where one is."""
-    found = ledger.answer(command)
+    found = replay.answer(command)
     assert answer in (None, found), (command, answer, found)
     line(command, found)
 
@@ -87,7 +85,7 @@ def accepted(*asked):
 
 def refused(number, *asked):
     """Commands that are refused with a number, and leave the lent words as they were."""
-    before = ledger.answer("words")
+    before = replay.answer("words")
     for command in asked:
         run(command, f"refused {number}")
     run("words", before)
@@ -95,15 +93,16 @@ def refused(number, *asked):
 
 def read_all():
     """All rows, and a row that is not there."""
-    for row in range(len(ledger.rows)):
+    rows = len(replay.run.rows)
+    for row in range(rows):
         run(f"read {row}")
-    run(f"read {len(ledger.rows)}", "refused 17")
+    run(f"read {rows}", "refused 17")
 
 
 def admit_columns(built, columns):
     """An image and what the rows of its nodes mean."""
     admit(built, f"admitted {len(columns)}")
-    ledger.columns = columns
+    replay.columns = columns
 
 
 def nulls(rows):
@@ -778,12 +777,12 @@ def fleet():
         Column([Text(b"ISS"), Text(b""), Null()]),
         Column([Boolean(True), Boolean(False), Null(), Boolean(True)]),
         few,
-        Column([Refer(floats.slots[1]), Refer(floats.slots[0]), Refer(floats.slots[1])], [floats]),
+        Column([Refer(floats.rows[1]), Refer(floats.rows[0]), Refer(floats.rows[1])], [floats]),
         floats,
         Column([Struct((Nothing(),))] * 3, [most]),
         most,
         Column([]),
-        Column([Struct((lists[row], fields.slots[row])) for row in range(3)], [inner, fields]),
+        Column([Struct((lists[row], fields.rows[row])) for row in range(3)], [inner, fields]),
         inner,
         fields,
         below,

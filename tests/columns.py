@@ -37,6 +37,7 @@ import itertools
 import pathlib
 import random
 import sys
+from collections import Counter
 
 ROOT = pathlib.Path(__file__).resolve().parent.parent
 sys.path[:0] = [str(ROOT / "tools"), str(ROOT / "tests")]
@@ -52,6 +53,7 @@ from model import (  # noqa: E402
     REFERENCE, STANDARD, U64, Z, Binary, Boolean, Float, Fnv1a, Map, Nothing, Null,
     Number, Refer, Sequence, SipHash24, Struct, Text, View,
 )
+from runs import MOST_ROWS  # noqa: E402
 
 LEAVES = (NULL, BOOLEAN, NUMBER, FLOAT, UTF8, BINARY, FIXED_SIZE_BINARY, VIEW)
 NESTED = (DICTIONARY, STRUCT, LIST, LIST_VIEW, MAP, FIXED_SIZE_LIST, RUN_END)
@@ -60,7 +62,6 @@ UNMARKED = (NULL, RUN_END)  # kinds without null marks
 OFFSETS = (UTF8, BINARY, LIST, MAP)  # kinds with one offset more than elements
 TURNS = ("first", "later")
 STATES = (STANDARD, Z, REFERENCE)
-MOST = 1_048_576  # the limit of START and ROWS
 
 # P by kind, where it is read; of kinds 8 and 15 any few of their many sizes
 WIDTHS = {
@@ -259,7 +260,7 @@ def reach(column):
     column.at = {}
 
     if kind == DICTIONARY:
-        most = min(MOST, 256**column.p // (2 if column.signed else 1))
+        most = min(MOST_ROWS, 256**column.p // (2 if column.signed else 1))
         kids[0].rows += spare_rows(kids[0])
         for r in rng.sample(live, len(live)):  # in any order, so that keys are not sorted
             places = find(kids[0].rows, [rows[r].slot])
@@ -296,7 +297,7 @@ def reach(column):
 
     elif kind == LIST_VIEW:
         kids[0].rows += spare_rows(kids[0])
-        shared = rng.random() < 0.7 or len(kids[0].rows) == MOST
+        shared = rng.random() < 0.7 or len(kids[0].rows) == MOST_ROWS
         order = rng.sample(live, len(live))
         if shared:  # the long ones first, so that the short ones are found in them
             order.sort(key=lambda r: -len(rows[r].elements))
@@ -511,7 +512,7 @@ def note(column, root):
         return
     cover("rows", kind, place, above)
     for field, value in (("ROWS", len(column.rows)), ("START", column.start)):
-        if value == MOST:
+        if value == MOST_ROWS:
             cover("limit", field)
     if Null() in column.rows and column.start % 8:
         cover("null at START", kind, place)
@@ -643,11 +644,13 @@ def required_questions():
     return wanted | {("entry", what) for what in ("0", "above 0", "past 2^64 within a column")}
 
 
-def table(wanted, covered):
-    """How much of each sort has to be covered, and how much of it is."""
+def table(wanted):
+    """How much of each sort has to be covered, and how much of it is; fails where some is not."""
     for sort in sorted({what[0] for what in wanted}):
         asked = {what for what in wanted if what[0] == sort}
         print(f"{len(asked & covered):4} of {len(asked):4} covered: {sort}")
+    missing = wanted - covered
+    assert not missing, sorted(missing, key=str)
 
 
 # ---------------------------------------------------------------------------
@@ -655,7 +658,7 @@ def table(wanted, covered):
 
 lines = []
 images = []  # (image, columns by node number) for --check
-counts = []  # [title, images, lines with numbers, numbers] of each group
+counts = []  # of each group its title, and how many of what it has
 
 ENTRIES = (0, 1, 5, 7, 629, 2**32 - 1, 2**63, U64 - 1, U64)
 
@@ -664,8 +667,13 @@ def group(title):
     """A heading; what follows begins with its own seed, so that groups do not change each other."""
     lines.append("")
     lines.append("# " + title)
-    counts.append([title, 0, 0, 0])
+    counts.append((title, Counter()))
     rng.seed(title)
+
+
+def tally(**more):
+    """Counts what the group has more of."""
+    counts[-1][1].update(more)
 
 
 def show(image, nodes, roots=()):
@@ -676,7 +684,7 @@ def show(image, nodes, roots=()):
         note_sharing(nodes)
     lines.append("image " + image.hex())
     images.append((image, nodes))
-    counts[-1][1] += 1
+    tally(images=1)
 
 
 def under(state):
@@ -685,6 +693,11 @@ def under(state):
         lines.append(f"fnv1a {state.start:#x}")
     else:
         lines.append(f"siphash {state.k0:#x} {state.k1:#x}")
+
+
+def shown(value):
+    """A number as a word."""
+    return f"{value:#x}" if value > 9 else str(value)
 
 
 # how the rows of a list may stand to those of the column
@@ -720,12 +733,11 @@ def ask(state, turn, node, rows, taken=None, entry=None):
     note_question(state, turn, images[-1][1][node], taken, entry)
     slots = rows if taken is None else [rows[r] for r in taken]
     numbers = [model.number(state, turn == "first", (entry + j) & U64, slot) for j, slot in enumerate(slots)]
-    words = [turn, str(node), f"{entry:#x}" if entry > 9 else str(entry)]
+    words = [turn, str(node), shown(entry)]
     if taken is not None:
         words += ["list", *map(str, taken), "="]
     lines.append(" ".join(words + [f"{number:#x}" for number in numbers]))
-    counts[-1][2] += 1
-    counts[-1][3] += len(numbers)
+    tally(lines=1, numbers=len(numbers))
 
 
 def case(*roots, states=STATES, inner=0, lists=(), laid=None):
@@ -1001,15 +1013,15 @@ def cases_of_empty_rows():
     group("a child of as many rows as there may be")
     low, high = Refer(Number(1, 5)), Refer(Number(1, 9))
     runs = Column(RUN_END, Column(NUMBER, p=1), p=4, start=0, spare=(0,), split=0)
-    runs.holding(*[low] * (MOST - 2), high, high)
+    runs.holding(*[low] * (MOST_ROWS - 2), high, high)
     case(Column(LIST_VIEW, runs).holding(Sequence((low, high, high)), Null(), Sequence(()), Sequence((high,))),
          Column(DICTIONARY, runs, p=4).holding(Refer(high), Null(), Refer(low)), states=[STANDARD])
-    assert len(runs.rows) == MOST
+    assert len(runs.rows) == MOST_ROWS
 
     group("START at its limit, where no buffer is needed for that")
-    for column, slot in ((Column(NULL, start=MOST), Nothing()),
-                         (Column(STRUCT, start=MOST, bitmap=False), Struct(())),
-                         (Column(FIXED_SIZE_LIST, some_leaf(), p=0, start=MOST, bitmap=False), Sequence(()))):
+    for column, slot in ((Column(NULL, start=MOST_ROWS), Nothing()),
+                         (Column(STRUCT, start=MOST_ROWS, bitmap=False), Struct(())),
+                         (Column(FIXED_SIZE_LIST, some_leaf(), p=0, start=MOST_ROWS, bitmap=False), Sequence(()))):
         case(column.holding(slot, slot))
 
 
@@ -1178,7 +1190,7 @@ def check(image, columns):
     for node in reversed(range(nodes)):
         kind, rows, start, nulls, a, b, p, tab, cnt = (num(4 + 36 * node + 4 * k, 4) for k in range(9))
         stop = start + rows
-        assert kind == columns[node].kind and max(rows, start) <= MOST
+        assert kind == columns[node].kind and max(rows, start) <= MOST_ROWS
         assert kind not in WIDTHS or p in WIDTHS[kind] or kind in (8, 15) and p <= 65_535
         kids = [num(tab + 4 * k, 4) for k in range(cnt)] if kind in NESTED else []
         assert all(node < kid < nodes for kid in kids)
@@ -1262,28 +1274,48 @@ def check(image, columns):
         assert slots == columns[node].rows, (node, kind)
 
 
-def store(directories, part, text, checking):
-    """Writes a part of stdin, or checks it: 0 before the line RUNS, or 1 after it."""
+# ---------------------------------------------------------------------------
+# How this script ends, and tests/scripts.py.
+
+
+def store(part, text):
+    """Writes a part of stdin, or checks it and the images: 0 before the line RUNS, or 1 after it."""
+    checking = "--check" in sys.argv
+    directories = [word for word in sys.argv[1:] if word != "--check"]
     directory = pathlib.Path(directories[0]) if directories else ROOT / "crates" / "vectors"
     file = directory / "stdin"
     before, _, after = file.read_text().partition(RUNS) if file.exists() else ("", "", "")
     if checking:
+        for image, nodes in images:
+            check(image, nodes)
         assert text == (before, after)[part], f"{file} is not up to date"
         return
     directory.mkdir(parents=True, exist_ok=True)
     file.write_text(text + RUNS + after if part == 0 else before + RUNS + text)
 
 
-def begin():
-    """Tries the model; whether the file is to be checked, and the other words of the command line."""
-    model.self_test()
-    words = sys.argv[1:]
-    return "--check" in words, [word for word in words if word != "--check"]
+def summary(text):
+    """How many of what each group has, and all of them."""
+    def told(counted):
+        return " ".join(f"{many:6} {what}" for what, many in counted.items())
+
+    total = Counter()
+    for title, counted in counts:
+        print(f"{told(counted)}  {title}")
+        total.update(counted)
+    print(f"{told(total)}, {len(text):,} bytes")
+
+
+def finish(part, text, wanted):
+    """Tells how much there is and what it covers of what is wanted, and writes or checks this part of the file."""
+    summary(text)
+    table(wanted)
+    store(part, text)
 
 
 def main():
     """Works out all cases, and writes or checks them."""
-    checking, words = begin()
+    model.self_test()
     cases_of_docs()
     cases_of_leaves()
     cases_of_empty_columns()
@@ -1298,19 +1330,8 @@ def main():
     cases_of_heights()
     cases_of_trees()
     cases_of_lists_of_rows()
-    missing = required() - covered
-    assert not missing, sorted(missing, key=str)
-
     text = "\n".join(["# tests/columns.py writes these lines and says what they are"] + lines) + "\n\n"
-    if checking:
-        for image, columns in images:
-            check(image, columns)
-    store(words, 0, text, checking)
-    for title, made, asked, numbers in counts:
-        print(f"{made:4} images {asked:5} lines {numbers:6} numbers  {title}")
-    made, asked, numbers = (sum(count[k] for count in counts) for k in (1, 2, 3))
-    print(f"{made:4} images {asked:5} lines {numbers:6} numbers, {len(text):,} bytes")
-    table(required(), covered)
+    finish(0, text, required())
 
 
 if __name__ == "__main__":

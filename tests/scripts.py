@@ -9,12 +9,8 @@ makes the calls of each run by one `runs::replay::replay`, and compares. Both
 ways end with a table of what the runs cover, and fail where they miss some of
 what `required` asks for.
 
-The answers come from a ledger: of each row the place that it began at, its
-entry, and the slots that it has met. A row's number is worked out from these
-alone, when it is asked for, by the row rule of tests/model.py; nothing is led
-from word to word, and nothing is read from an image. Whether a call is refused
-goes by the number of rows and of columns, and by what is known of a column
-before it has bytes.
+The answers come from the ledger of tests/runs.py, which is fed the columns as
+they are before they have bytes: nothing is read from an image.
 
 Each run is told a second time: it begins the same, one keep lists the places
 that its rows began at, and then each of its accepted columns comes with the
@@ -48,14 +44,17 @@ ROOT = pathlib.Path(__file__).resolve().parent.parent
 sys.path[:0] = [str(ROOT / "tools"), str(ROOT / "tests")]
 sys.dont_write_bytecode = True
 
-import columns  # noqa: E402
 import model  # noqa: E402
-from columns import HOW, KINDS, MOST, NESTED, TURNS, Column, lay, rng, some_column, some_tree  # noqa: E402
+import runs  # noqa: E402
+from columns import (  # noqa: E402
+    HOW, KINDS, NESTED, TURNS, Column,
+    cover, finish, group, images, lay, lines, rng, shown, some_column, some_tree, tally, under,
+)
 from images import BOOLEAN, FLOAT, LIST, MAP, NULL, NUMBER, STRUCT, UTF8, VIEW  # noqa: E402
 from model import REFERENCE, STANDARD, U64, Fnv1a, Nothing, SipHash24  # noqa: E402
+from runs import MOST_COLUMNS, MOST_ROWS, Ledger, Lent, need  # noqa: E402
 
 STATES = (STANDARD, Fnv1a(0x123456789ABCDEF), REFERENCE, SipHash24(3, U64 - 5))
-MOST_COLUMNS = 255
 STAGES = ("new", "begun")
 
 
@@ -73,92 +72,40 @@ def image(*roots):
     return Image(data, tuple(nodes))
 
 
-def need(column):
-    """The words of work that a column needs."""
-    return max((len(child.rows) + need(child) for child in column.children), default=0)
-
-
-# ---------------------------------------------------------------------------
-# What was covered, noted as it is told and asked for at the end.
-
-covered = set()
-
-
-def cover(*what):
-    covered.add(what)
-
-
-# ---------------------------------------------------------------------------
-# The ledger.
-
-
-class Row(NamedTuple):
-    """Where a row began, its entry, and of each column the slot that it met and that slot's row."""
-    origin: int
-    entry: int
-    met: tuple
-
-
-@functools.lru_cache(maxsize=None)
-def led(state, entry, slots):
-    """The entry led through the row rule by slots, the first as first and the rest as later."""
-    for turn, slot in enumerate(slots):
-        entry = model.number(state, turn == 0, entry, slot)
-    return entry
-
-
-def number(state, row):
-    return led(state, row.entry, tuple([slot for slot, _ in row.met])) if row.met else row.entry
-
-
-def unclaimed(work, claimed):
-    return max(work - claimed, 0)
-
-
-class Run:
+class Run(Ledger):
     """A run that is told line by line, each call with its answer."""
 
     def __init__(self, state, images, entries, rows=None, work=4096, places=None):
-        self.state, self.images, self.entries, self.work = state, images, entries, work
         self.asked = len(entries) if rows is None else rows
-        self.places = places
-        self.words = list(entries)  # behind the rows; those of the rows are worked out
-        self.rows, self.count, self.columns = [], 0, []
-        self.refused = min(self.asked, len(entries)) > MOST
-        self.over, self.made, self.spared = self.refused, 0, work
+        super().__init__(state, entries, self.asked)
+        self.images, self.entries, self.work, self.places = images, entries, work, places
+        self.columns = []
+        self.over, self.made, self.spared = bool(self.begin_faults), 0, work
         self.wrote = set()  # which calls put words into the work
         self.faults = []  # of the calls that were refused since the last accepted one
         self.lines = []
-        if not self.refused:
-            self.rows = [Row(j, entry, ()) for j, entry in enumerate(entries[:self.asked])]
 
     @property
     def stage(self):
         return STAGES[self.count > 0]
 
-    def column(self, image, node, taken=None, entries=None, work=None, claimed=0):
+    def column(self, image, node, taken=None, **told):
         """A column, or a refusal; lent all there is, if nothing else is told."""
-        entries = len(self.words) if entries is None else entries
-        work = self.work if work is None else work
-        column = self.column_at(image, node)
-        words = ["column", image, node, entries, work, claimed]
-        words += [] if taken is None else ["list", *short(taken)]
-        lent = min(entries, len(self.words)), min(work, self.work), claimed
-        if not self.answers(words):
+        lent, got = self.lend(**told)
+        words = ["column", image, node, *lent]
+        if not self.answers(words if taken is None else words + ["list", *short(taken)]):
             return
-        self.spared = min(self.spared, claimed)
-        faults = self.column_faults(column, taken, *lent)
-        note_lent(self, "column", (entries, work, claimed), need(column) if column else 0, faults)
-        if column and unclaimed(*lent[1:]) - need(column) in (-1, 0):
+        self.spared = min(self.spared, lent.claimed)
+        column = self.column_at(image, node)
+        faults = self.column_faults(column, taken, got)
+        note_lent(self, "column", lent, need(column) if column else 0, faults)
+        if column and got.unclaimed() - need(column) in (-1, 0):
             for sort in sorts_of_need(column):
                 cover(*sort, faults[0] if faults else "accepted")
         note_column(self, image, node, column, taken, faults)
         if self.refuses("column", faults):
             return
-        taken = range(len(self.rows)) if taken is None else taken
-        met = [(slot, r) for r, slot in enumerate(column.rows)]
-        self.rows = [Row(row.origin, row.entry, row.met + (met[r],)) for row, r in zip(self.rows, taken)]
-        self.count += 1
+        self.meet(column, taken)
         self.columns.append((image, node))
         self.wrote |= {"column"} if need(column) else set()
         self.lines[-1].append("accepted")
@@ -168,61 +115,40 @@ class Run:
         nodes = self.images[image].nodes if image < len(self.images) else ()
         return nodes[node] if node < len(nodes) else None
 
-    def column_faults(self, column, taken, entries, work, claimed):
-        """All refusals that apply, in their order."""
-        met = len(taken) if taken is not None else len(column.rows) if column else len(self.rows)
-        applies = {
-            11: entries < len(self.rows),
-            12: self.count == MOST_COLUMNS,
-            13: column is None,
-            14: met != len(self.rows),
-            15: column is not None and any(r >= len(column.rows) for r in taken or ()),
-            16: column is not None and unclaimed(work, claimed) < need(column),
-        }
-        return [fault for fault, holds in applies.items() if holds]
-
-    def keep(self, taken, entries=None, work=None, claimed=0):
+    def keep(self, taken, **told):
         """A keep, or a refusal."""
-        entries = len(self.words) if entries is None else entries
-        work = self.work if work is None else work
-        lent = min(entries, len(self.words)), min(work, self.work), claimed
-        if not self.answers(["keep", entries, work, claimed, "list", *short(taken)]):
+        lent, got = self.lend(**told)
+        if not self.answers(["keep", *lent, "list", *short(taken)]):
             return
-        self.spared = min(self.spared, claimed)
-        faults = self.keep_faults(taken, *lent)
-        note_lent(self, "keep", (entries, work, claimed), len(taken), faults)
-        note_keep(self, taken, lent[0], faults)
+        self.spared = min(self.spared, lent.claimed)
+        faults = self.keep_faults(taken, got)
+        note_lent(self, "keep", lent, len(taken), faults)
+        note_keep(self, taken, got.entries, faults)
         if self.refuses("keep", faults):
             return
-        self.words[:len(self.rows)] = self.numbers()
-        self.rows = [self.rows[r] for r in taken]
+        self.choose(taken)
         self.wrote |= {"keep"} if taken else set()
         self.lines[-1].append("accepted")
 
-    def keep_faults(self, taken, entries, work, claimed):
-        applies = {
-            11: entries < len(self.rows),
-            14: len(taken) > entries or len(taken) > MOST,
-            15: any(r >= len(self.rows) for r in taken),
-            16: unclaimed(work, claimed) < len(taken),
-        }
-        return [fault for fault, holds in applies.items() if holds]
-
     def read(self, row, entries=None):
         """A read, or a refusal; of a run without a column it ends the run."""
-        entries = len(self.words) if entries is None else entries
         if not self.over and self.made != self.places and not self.count:
             cover("read of a run without a column", "first call" if not self.made else "later call")
             self.over = True
-        if not self.answers(["read", row, entries]):
+        lent, got = self.lend(entries, work=0)
+        if not self.answers(["read", row, lent.entries]):
             return
-        lent = min(entries, len(self.words))
-        applies = {11: lent < len(self.rows), 17: row >= len(self.rows)}
-        faults = [fault for fault, holds in applies.items() if holds]
-        note_lent(self, "read", (entries, 0, 0), 0, faults)
+        faults = self.read_faults(row, got.entries)
+        note_lent(self, "read", lent, 0, faults)
         note_read(self, row, faults)
         if not self.refuses("read", faults):
-            self.lines[-1] += [shown(number(self.state, self.rows[row])), self.count]
+            self.lines[-1] += [shown(self.number(self.rows[row])), self.count]
+
+    def lend(self, entries=None, work=None, claimed=0):
+        """What a call is lent by its line, and what it gets of that, which is no more than there is."""
+        entries = len(self.words) if entries is None else entries
+        work = self.work if work is None else work
+        return Lent(entries, work, claimed), Lent(min(entries, len(self.words)), min(work, self.work), claimed)
 
     def answers(self, words):
         """Begins the line of a call; whether the call is made."""
@@ -247,24 +173,19 @@ class Run:
         self.faults.append((call, faults[0]))
         return True
 
-    def numbers(self):
-        known = {id(row): number(self.state, row) for row in {id(row): row for row in self.rows}.values()}
-        return [known[id(row)] for row in self.rows]
-
     def told(self):
         """All lines."""
         places = self.made + rng.choice((0, 0, 1, 3)) if self.places is None else self.places
-        if not self.refused:
+        if not self.begin_faults:
             if places < len(self.lines):
                 cover("places", "fewer than calls", places == 0)
             cover("places", "as many as calls" if places == len(self.lines) else "other")
             if places > len(self.lines):
                 cover("places", "more than calls")
-        self.words[:len(self.rows)] = self.numbers()
-        end = ["refused", 11] if self.refused else [self.stage, self.made]
+        end = ["refused", *self.begin_faults] if self.begin_faults else [self.stage, self.made]
         note_run(self)
         return [["run", self.asked, self.work, places, *short(self.entries)], *self.lines,
-                ["end", *end, self.spared, *short(self.words)]]
+                ["end", *end, self.spared, *short(self.left())]]
 
     def retold(self):
         """The same rows by one keep and the accepted columns, in their order."""
@@ -363,8 +284,8 @@ def note_keep(run, taken, entries, faults):
         cover("keep of as many as entries", run.stage, outcome)
     if len(taken) == entries + 1:
         cover("keep of one more than entries", run.stage, outcome)
-    if len(taken) in (MOST, MOST + 1) and len(taken) <= entries:
-        cover("keep of at most 1,048,576", len(taken) == MOST, outcome)
+    if len(taken) in (MOST_ROWS, MOST_ROWS + 1) and len(taken) <= entries:
+        cover("keep of at most 1,048,576", len(taken) == MOST_ROWS, outcome)
     if 15 in faults:
         cover("keep's number", "as many as rows" if rows in taken else "higher", outcome)
     if faults:
@@ -394,8 +315,9 @@ def note_read(run, row, faults):
 def note_run(run):
     """Notes what a run has in all."""
     begun = min(run.asked, len(run.entries))
-    cover("begin", "refused" if run.refused else "accepted", begun if begun in (0, MOST, MOST + 1) else "other")
-    if not run.refused:
+    cover("begin", "refused" if run.begin_faults else "accepted",
+          begun if begun in (0, MOST_ROWS, MOST_ROWS + 1) else "other")
+    if not run.begin_faults:
         cover("begin", "asked", "less than all" if run.asked < len(run.entries) else
               "all" if run.asked == len(run.entries) else "more than all")
         cover("calls", min(run.made, 1), run.state)
@@ -456,7 +378,7 @@ def required():
     wanted |= {("no rows", "column", "rows", "list"), ("no rows", "keep"), ("no rows", "read", 17)}
     wanted |= {("places", "fewer than calls", none) for none in (False, True)}
     wanted |= {("places", "as many as calls"), ("places", "more than calls")}
-    wanted |= {("begin", "accepted", rows) for rows in (0, MOST, "other")} | {("begin", "refused", MOST + 1)}
+    wanted |= {("begin", "accepted", rows) for rows in (0, MOST_ROWS, "other")} | {("begin", "refused", MOST_ROWS + 1)}
     wanted |= {("begin", "asked", what) for what in ("less than all", "all", "more than all")}
     wanted |= {("calls", some, state) for some in (0, 1) for state in STATES}
     wanted |= {("words behind the rows", stage) for stage in STAGES} | {("255 columns", state) for state in STATES}
@@ -475,14 +397,6 @@ def required_needs(kind):
 # ---------------------------------------------------------------------------
 # The lines.
 
-lines = []
-images = []  # for --check
-counts = []  # [title, runs, calls] of each group
-
-
-def shown(value):
-    return f"{value:#x}" if value > 9 else str(value)
-
 
 def short(values):
     """Numbers as words, those that stand often in a row by one word."""
@@ -490,14 +404,6 @@ def short(values):
         count = len(list(same))
         word = shown(value) if value >= 2**32 else str(value)
         yield from [f"{word}*{count}"] if count > 3 else [word] * count
-
-
-def group(title):
-    """A heading; what follows begins with its own seed, so that groups do not change each other."""
-    lines.append("")
-    lines.append("# " + title)
-    counts.append([title, 0, 0])
-    rng.seed(title)
 
 
 def show(*shown_images):
@@ -509,15 +415,11 @@ def show(*shown_images):
 
 def tell(run):
     """The lines of a run, and of the same run told again."""
-    runs = [run] if run.refused else [run, run.retold()]
-    if isinstance(run.state, Fnv1a):
-        lines.append(f"fnv1a {run.state.start:#x}")
-    else:
-        lines.append(f"siphash {run.state.k0:#x} {run.state.k1:#x}")
-    for one in runs:
+    both = [run] if run.begin_faults else [run, run.retold()]
+    under(run.state)
+    for one in both:
         lines.extend(" ".join(map(str, words)) for words in one.told())
-        counts[-1][1] += 1
-        counts[-1][2] += len(one.lines)
+        tally(runs=1, calls=len(one.lines))
 
 
 # ---------------------------------------------------------------------------
@@ -857,24 +759,24 @@ def runs_that_end_early():
 
 def runs_of_limits():
     group("as many rows as a run may have, and one more")
-    nothing = Column(NULL, start=0).holding(*[Nothing()] * MOST)
+    nothing = Column(NULL, start=0).holding(*[Nothing()] * MOST_ROWS)
     told = show(image(nothing, Column(UTF8).drawn(3)))
     tall = told[0].nodes.index(nothing)
-    tell(Run(STANDARD, told, [7] * (MOST + 1)))
-    run = Run(STANDARD, told, [7] * (MOST + 1), rows=U64)
+    tell(Run(STANDARD, told, [7] * (MOST_ROWS + 1)))
+    run = Run(STANDARD, told, [7] * (MOST_ROWS + 1), rows=U64)
     run.keep([0])
     run.read(0)
     tell(run)
-    run = Run(REFERENCE, told, [7] * (MOST + 1) + [5], rows=MOST, work=MOST + 2)
-    run.keep([0] * MOST, entries=MOST - 1)
+    run = Run(REFERENCE, told, [7] * (MOST_ROWS + 1) + [5], rows=MOST_ROWS, work=MOST_ROWS + 2)
+    run.keep([0] * MOST_ROWS, entries=MOST_ROWS - 1)
     run.column(0, tall)
-    run.keep([1] * (MOST + 1))
-    run.keep([3] * MOST, claimed=2, work=MOST + 1)
-    run.keep([3] * MOST, claimed=2)
-    run.column(0, tall, entries=MOST)
-    run.read(MOST - 1)
-    run.read(MOST)
-    run.keep([MOST - 1, 0, 5])
+    run.keep([1] * (MOST_ROWS + 1))
+    run.keep([3] * MOST_ROWS, claimed=2, work=MOST_ROWS + 1)
+    run.keep([3] * MOST_ROWS, claimed=2)
+    run.column(0, tall, entries=MOST_ROWS)
+    run.read(MOST_ROWS - 1)
+    run.read(MOST_ROWS)
+    run.keep([MOST_ROWS - 1, 0, 5])
     run.column(0, 1 - tall, [2, 2, 0])
     run.read(0)
     tell(run)
@@ -898,7 +800,8 @@ def runs_at_random():
 
 def main():
     """Tells all runs, and writes or checks them."""
-    checking, words = columns.begin()
+    model.self_test()
+    runs.self_test()
     runs_of_kinds()
     runs_of_all_columns()
     runs_of_lent_words()
@@ -907,18 +810,7 @@ def main():
     runs_that_end_early()
     runs_of_limits()
     runs_at_random()
-    text = "\n".join(lines[1:]) + "\n"
-    if checking:
-        for data, nodes in images:
-            columns.check(data, nodes)
-    columns.store(words, 1, text, checking)
-    for title, told, calls in counts:
-        print(f"{told:4} runs {calls:6} calls  {title}")
-    told, calls = (sum(count[k] for count in counts) for k in (1, 2))
-    print(f"{told:4} runs {calls:6} calls, {len(text):,} bytes")
-    columns.table(required(), covered)
-    missing = required() - covered
-    assert not missing, sorted(missing, key=str)
+    finish(1, "\n".join(lines[1:]) + "\n", required())
 
 
 if __name__ == "__main__":

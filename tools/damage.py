@@ -14,22 +14,24 @@ whether the image is admitted. It ends with status 1 and the case's image where 
 
 import random
 import re
-import struct
 import subprocess
 import sys
 import tempfile
 from pathlib import Path
 
 ROOT = Path(__file__).resolve().parent.parent
+sys.dont_write_bytecode = True
+
+from images import head, little  # noqa: E402
+
 PROGRAM = ROOT / "rowhash"
 BATCH = 200
 SECONDS = 120
-MOST_ROWS = 40  # of a node with more, three rows are hashed
+FEW_ROWS = 40  # of a node with more, three rows are hashed
 EACH = 20
 MOST_WORK = 15 * 2**20  # no column of an image needs more
 
-# the fields of a record, with values at the edges of what rejections ask of them
-RECORD = 36
+# values at the edges of what rejections ask of fields
 EDGES = [0, 1, 2, 3, 4, 5, 7, 8, 9, 12, 13, 16, 17, 255, 256, 257, 65535, 65536, 1048575, 1048576, 1048577,
          2**30 - 1, 2**30, 2**31 - 1, 2**31, 2**32 - 2, 2**32 - 1]
 
@@ -66,11 +68,11 @@ def damage(image, chance):
                 image[at] ^= 1 << chance.randrange(8)
             case 2:
                 nodes = max(1, min(256, int.from_bytes(image[:4], "little")))
-                place = 4 + RECORD * chance.randrange(nodes) + 4 * chance.randrange(9)
-                image[place:place + 4] = struct.pack("<I", chance.choice(EDGES))
+                place = head(chance.randrange(nodes)) + 4 * chance.randrange(9)
+                image[place:place + 4] = little(4, chance.choice(EDGES))
             case 3:
                 place = at // 4 * 4
-                image[place:place + 4] = struct.pack("<I", chance.choice(EDGES))
+                image[place:place + 4] = little(4, chance.choice(EDGES))
             case 4:
                 del image[at:]
             case 5:
@@ -85,9 +87,9 @@ def damage(image, chance):
 def nodes_of(image):
     """Node numbers and rows, as far as the header and the records are there."""
     count = int.from_bytes(image[:4], "little")
-    if not 1 <= count <= 256 or len(image) < 4 + RECORD * count:
+    if not 1 <= count <= 256 or len(image) < head(count):
         return []
-    return [(node, int.from_bytes(image[4 + RECORD * node + 4:][:4], "little")) for node in range(count)]
+    return [(node, int.from_bytes(image[head(node) + 4:][:4], "little")) for node in range(count)]
 
 
 def commands(image, chance):
@@ -97,7 +99,7 @@ def commands(image, chance):
         lines.append((f"slot {node} {chance.randrange(rows + 2)}", SLOT))
         met = rows
         column = f"column {node}"
-        if rows > MOST_ROWS:
+        if rows > FEW_ROWS:
             met = 3
             column += f" list 0 {chance.randrange(rows)} {rows - 1}"
         lines += [("begin" + " 0" * met, "accepted"), (column, "accepted"), (column, "accepted")]

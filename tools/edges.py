@@ -25,10 +25,10 @@ from images import (  # noqa: E402
     BINARY, NULL, STRUCT, VIEW, children, head, image, little, long_view, pairs, record,
 )
 from model import FNV_PRIME, FNV_START, STANDARD, Nothing, Struct, View, fnv1a, number  # noqa: E402
+from runs import MOST_ROWS  # noqa: E402
 
 PROGRAM = ROOT / "rowhash"
 MOST_BYTES = 1_073_741_824
-MOST_ROWS = 1_048_576
 MOST_BUFFERS = 65_535
 VIEWED = b"thirteen byte"
 LAST = b"\x01\x02\x03\x04\x05"

@@ -33,7 +33,7 @@ def little(width, *values):
 
 
 def head(nodes):
-    """The bytes before the first buffer: the node count and the records."""
+    """The bytes before the first buffer: the node count and the records. So node n's record is at `head(n)`."""
     return 4 + 36 * nodes
 
 
