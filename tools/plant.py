@@ -10,8 +10,9 @@ takes all. --list prints the places and checks nothing. The tree is copied once,
 is one line of the copy changed, and the function is checked there; if that is accepted, the whole crate. A check has S
 seconds at most (300 if left out). A line is printed for each:
 
-    refused     the check ends without a proof, the first error in the code
-    in proof    the same, the first error in a proof file, which may only not fit what it finds
+    refused     the check finds a need of the code not met, or a proof of another thing than is now to be shown
+    misfit      the check ends without a proof, but says no more than that a proof names what the bug took away, or that
+                it does not cover such a form; asked again without that proof, it finds no values at which a need fails
     survived    the check accepts it: a hole in a contract, or a change that nobody can see
     run         a program: the check accepts it, and what the program prints is wrong
     unbuilt     the compiler refuses it, so it shows nothing
@@ -54,6 +55,9 @@ EXCHANGES = [
 ]
 NUMBER = re.compile(r"(?<![\w.#'\"])(\d[\d_]*)(?![\w.])")
 CALL = re.compile(r"\b(\w+)\(([^()]*)\)")
+# errors of a proof that names what is no more, and of what rests on it
+BESIDE = re.compile(r"has no field|that can be named from here|w(as|ere) not checked")
+FALSE = re.compile(r"allow values at which this goal is false|may be false")
 STATEMENT = re.compile(r"\s+[\w.\[\]*]+(\.\w+\(.*\)\??| [-+*|^&]?= .*|\(.*\)\??);")
 
 
@@ -175,8 +179,10 @@ def verdict(said):
         return "survived"
     if re.search(r"error\[", said):
         return "unbuilt"
-    first = re.search(r"^(src|proofs|specs)/\S+:\d+", said, re.M)
-    return "in proof" if first and first[1] != "src" else "refused"
+    if re.search(r"^note: src/\S+ it is not proved that", said, re.M):
+        return "refused"
+    errors = re.findall(r"^(?:\./)?(?:src|proofs|specs)/\S+:\d+:\d+: error: .*", said, re.M)
+    return "refused" if any(not BESIDE.search(error) for error in errors) else "misfit"
 
 
 def runs_wrong(folder):
@@ -198,14 +204,29 @@ def checked(folder, seconds, *only):
     return verdict(said), said
 
 
+def check_bare(folder, seconds, said, *only):
+    """The same without the answers that do not fit: whether the check finds values at which a need is not met."""
+    unfit = re.findall(r"^(?:\./)?(proofs/\S+/Answers\.antt)\S*: error", said, re.M)
+    moved = [folder / file for file in sorted(set(unfit))]
+    for file in moved:
+        file.rename(file.with_suffix(".aside"))
+    try:
+        found = checked(folder, seconds, *only)[1]
+    finally:
+        for file in moved:
+            file.with_suffix(".aside").rename(file)
+    return ("refused" if FALSE.search(found) else "misfit"), said + found
+
+
 def check(folder, known, function, seconds):
     """Checks the function, then the crate where that is accepted, and then runs it where it is a program."""
     named = [name for name in known if name == function or name.endswith("::" + function)]
-    if function and len(named) == 1:
-        outcome, said = checked(folder, seconds, "--only", named[0])
-        if outcome != "survived":
-            return outcome, said
-    outcome, said = checked(folder, 2 * seconds)
+    only = ("--only", named[0]) if function and len(named) == 1 else ()
+    outcome, said = checked(folder, seconds, *only)
+    if only and outcome == "survived":
+        outcome, said = checked(folder, 2 * seconds)
+    if outcome == "misfit":
+        outcome, said = check_bare(folder, seconds, said, *only)
     if outcome == "survived" and (folder / "stdin").exists() and runs_wrong(folder):
         outcome = "run"
     return outcome, said
