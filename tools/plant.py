@@ -186,11 +186,13 @@ def verdict(said):
 
 
 def runs_wrong(folder):
-    """Whether a program prints something else than it must."""
-    words = (folder / "args").read_text().split("\n") if (folder / "args").exists() else []
-    command = ["rt", "run", "--"] + [word for word in words if word]
+    """Whether a program prints something else than it must. Its files lie in data/, so it is run there."""
+    subprocess.run(["rt", "run"], cwd=folder, stdin=subprocess.DEVNULL, capture_output=True)  # builds it
+    words = (folder / "args").read_text().split() if (folder / "args").exists() else []
+    data = folder / "data" if (folder / "data").exists() else folder
+    command = [folder / "out" / folder.name, *words]
     with open(folder / "stdin") as told:
-        done = subprocess.run(command, cwd=folder, stdin=told, capture_output=True, text=True)
+        done = subprocess.run(command, cwd=data, stdin=told, capture_output=True, text=True)
     return done.stdout != (folder / "stdout").read_text()
 
 
