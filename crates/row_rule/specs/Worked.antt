@@ -36,7 +36,7 @@ WorkedNumbers =
 abbrev pub letters : ℕ → List ℕ
 letters n = range_with_len 97 n
 
--- each kind of slot as a first column and as a later one; views of 1, 12 and 13 bytes; references to a marked null and to a row of the Null type; structs, lists and maps of several children
+-- each kind of slot as a first column and as a later one; minus zero, later; views of 1, 12 and 13 bytes; references to a marked null and to a row of the Null type; structs, lists and maps of several children
 abbrev pub NumbersOfKinds : Type 0
 NumbersOfKinds =
     (by_z true 7 nothing
@@ -46,6 +46,7 @@ NumbersOfKinds =
     ∷ by_z false 1 (number 4 1)
     ∷ by_z true 7 (float 2 15360)
     ∷ by_z false 1 (float 2 15360)
+    ∷ by_z false 1 (float 2 32768)
     ∷ by_z true 7 (text (letters 1))
     ∷ by_z false 5 (text (letters 1))
     ∷ by_z true 7 (binary (letters 1))
@@ -68,7 +69,7 @@ NumbersOfKinds =
     ∷ by_z true 7 (entries (entry (boolean true) (number 1 2) none))
     ∷ by_z false 7 (entries (entry (boolean true) (boolean true) (entry (boolean false) null none)))
     ∷ [])
-    ≡ (11527715348014283921 ∷ 2250354181208841189 ∷ 1099511628211 ∷ 956575116354345 ∷ 0 ∷ 65970697692660 ∷ 916992697738749
+    ≡ (11527715348014283921 ∷ 2250354181208841189 ∷ 1099511628211 ∷ 956575116354345 ∷ 0 ∷ 65970697692660 ∷ 916992697738749 ∷ 956575116354345
     ∷ 92604167844460228 ∷ 3426354210245051714 ∷ 10622430616380713664 ∷ 5648307258185844910
     ∷ 5984138530507203056 ∷ 17191611703643831057 ∷ 3938342635625432200 ∷ 6088072389479637981 ∷ 2194587453236361088 ∷ 4269486303836246239
     ∷ 7 ∷ 7 ∷ 11527715348014283921 ∷ 1099511628211 ∷ 40681930267081 ∷ 996157535016746 ∷ 996157535016746
