@@ -1,1 +1,1 @@
-mod Answered
+pub mod Answered
