@@ -82,9 +82,10 @@ impl Lent {
             return Err(RunFault::Columns);
         }
         // both are none where there is no such node
-        let height = image.node(node).ok_or(RunFault::Node)?.rows;
-        let need = node_need(image, node).ok_or(RunFault::Node)?;
-        check_met(rows, height, list)?;
+        let (Some(record), Some(need)) = (image.node(node), node_need(image, node)) else {
+            return Err(RunFault::Node);
+        };
+        check_met(rows, record.rows, list)?;
         self.check_work(need as usize)?;
         Ok(need)
     }
