@@ -1,7 +1,8 @@
 // Hashing for C to call, so that it can be timed beside Rust's and compared with it.
 #![tactic(auto)]
 
-ghost use Rattle.std.specs.Prelude.{◌≡◌, [], ◌∷◌, ◌%◌, min, drop, take};
+ghost use Rattle.std.specs.Prelude.{◌≡◌, [], ◌∷◌, ◌%◌, ◌==◌, Some, None, cond, min, drop, take};
+ghost use Rattle.bench_hash.specs.Kinds.{kind_number};
 ghost use Rattle.bench_hash.specs.Rows.{rows};
 ghost use Rattle.hash_state.specs.Fnv.{fnv1a};
 ghost use Rattle.hash_state.specs.Sip.{siphash};
@@ -76,7 +77,9 @@ fn hash_kind<S: HashState>(
     low: u64,
     high: u64,
     bytes: &[u8; 16384],
-) -> u64 {
+) -> u64
+    ensures { result ≡ kind_number (S.BuildHasher.one state.now) (S.HashState.seeded state.now) before kind low high (take (min low 16384) bytes.now) }
+{
     let part = &bytes[0..low.min(16384) as usize];
     match kind {
         0 => hash_entry(&(low % 2 == 1), state, before),
@@ -104,7 +107,9 @@ pub extern "C" fn rt_fnv_kind(
     low: u64,
     high: u64,
     bytes: &[u8; 16384],
-) -> u64 {
+) -> u64
+    ensures { result ≡ kind_number (λ ws. fnv1a start (joined ws)) (λ seed ws. fnv1a seed (joined ws)) (cond (later == 1) (Some entry) None) kind low high (take (min low 16384) bytes.now) }
+{
     hash_kind(
         &Fnv1aState::from_start(start),
         (later == 1).then_some(entry),
@@ -125,7 +130,9 @@ pub extern "C" fn rt_sip_kind(
     low: u64,
     high: u64,
     bytes: &[u8; 16384],
-) -> u64 {
+) -> u64
+    ensures { result ≡ kind_number (λ ws. siphash k0 k1 (joined ws)) (λ seed ws. siphash seed k1 (joined ws)) (cond (later == 1) (Some entry) None) kind low high (take (min low 16384) bytes.now) }
+{
     hash_kind(
         &SipHashState::new(k0, k1),
         (later == 1).then_some(entry),
