@@ -123,9 +123,17 @@ def shown(answer, meaning):
 
 def try_show():
     """A line for each node, and for each row of a node."""
-    assert len(expect(["show", EXAMPLE], 0)) == 20
-    for node, (_, slots) in make_example.explained.items():
-        lines = expect(["show", EXAMPLE, node], 0)[1:]
+    title, *nodes = expect(["show", EXAMPLE], 0)
+    assert title == f"{EXAMPLE}: bytes {len(EXAMPLE.read_bytes())}, nodes {len(nodes)}" and len(nodes) == 19, title
+    for line, (node, (heading, slots)) in zip(nodes, sorted(make_example.explained.items())):
+        start = re.search(r"START (\d+)", heading)[1]
+        nulls = sum(answer == "null" for answer, _ in slots)
+        below = " ".join(map(str, children_of(node)))
+        wanted = rf" *{node}  [A-Z].* rows {len(slots)} +start {start} +nulls {nulls}"
+        wanted += f"  children {below}" if below else ""
+        assert re.fullmatch(wanted, line), line
+        first, *lines = expect(["show", EXAMPLE, node], 0)
+        assert first == title, first
         assert len(lines) == len(slots), node
         for row, (line, described) in enumerate(zip(lines, slots)):
             at, printed = line.split(maxsplit=1)
