@@ -1,14 +1,14 @@
 #!/usr/bin/env python3
 """Plants bugs in the code, one at a time, and notes whether the check refuses each.
 
-    tools/plant.py [--every N] [--seconds S] [--list] CRATE..
+    tools/plant.py [--every N] [--start K] [--seconds S] [--list] CRATE..
 
 Every function with a body in crates/CRATE/src is gone through, line by line, and every constant; contracts and ghost
-items are left alone.
-Each N-th place is planted (each 3rd if left out), so that the sample is even over functions and kinds of bugs; N = 1
-takes all. --list prints the places and checks nothing. The tree is copied once, with what was proved of it, each plant
-is one line of the copy changed, and the function is checked there; if that is accepted, the whole crate. A check has S
-seconds at most (300 if left out). A line is printed for each:
+items are left alone. Each N-th place is planted (each 3rd if left out), from number K on (0 if left out), so that the
+sample is even over functions and kinds of bugs; N = 1 takes all. --list prints the places and checks nothing. The tree
+is copied once, with what was proved of it, each plant is one line of the copy changed, and the function is checked
+there; if that is accepted, the whole crate. A check has S seconds at most (300 if left out). A line is printed for
+each:
 
     refused     the check finds a need of the code not met, or a proof of another thing than is now to be shown
     misfit      the check ends without a proof, but says no more than that a proof names what the bug took away, or that
@@ -259,6 +259,7 @@ def told(place):
 def main():
     parser = argparse.ArgumentParser(description=__doc__, formatter_class=argparse.RawDescriptionHelpFormatter)
     parser.add_argument("--every", type=int, default=3)
+    parser.add_argument("--start", type=int, default=0)
     parser.add_argument("--seconds", type=int, default=300)
     parser.add_argument("--list", action="store_true")
     parser.add_argument("--logs", type=Path, help="a folder for what each check says")
@@ -271,7 +272,8 @@ def main():
             found = list(places(crate))
             known = [] if asked.list else functions(copy / "crates" / crate)
             counts = {}
-            for k, place in enumerate(found[::asked.every]):
+            taken = found[asked.start::asked.every]
+            for k, place in enumerate(taken):
                 if asked.list:
                     print(told(place))
                     continue
@@ -281,7 +283,7 @@ def main():
                 if asked.logs:
                     (asked.logs / f"{crate}-{k}.log").write_text(f"{told(place)}\n{said}")
             numbers = ", ".join(f"{count} {outcome}" for outcome, count in sorted(counts.items()))
-            print(f"{crate}: {len(found[::asked.every])} of {len(found)} places planted: {numbers}", flush=True)
+            print(f"{crate}: {len(taken)} of {len(found)} places planted: {numbers}", flush=True)
 
 
 if __name__ == "__main__":
