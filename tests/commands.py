@@ -29,20 +29,28 @@ from model import (  # noqa: E402
 
 PROGRAM = ROOT / "rowhash"
 EXAMPLE = ROOT / "examples" / "passes.img"
+README = (ROOT / "README.md").read_text()
 STATES = {(): STANDARD, ("--state", "fnv1a"): STANDARD, ("--state", "fnv1a:7"): Fnv1a(7),
           ("--state", "siphash:1:0xffffffffffffffff"): SipHash24(1, 2**64 - 1)}
 told = 0
 
 
-def expect(arguments, status, printed=None, complaint=""):
+def expect(arguments, status, printed=None, complaint="", asked=b""):
     """Ends the program where a command prints something else, ends otherwise, or does not complain of this."""
     global told
     told += 1
-    done = subprocess.run([PROGRAM, *map(str, arguments)], capture_output=True, text=True)
-    lines = done.stdout.splitlines()
-    if done.returncode != status or printed is not None and lines != printed or complaint not in done.stderr:
-        sys.exit(f"rowhash {' '.join(map(str, arguments))} ended with {done.returncode}: {done.stderr}{lines[:3]}")
+    done = subprocess.run([PROGRAM, *map(str, arguments)], input=asked, capture_output=True)
+    lines, errors = done.stdout.decode().splitlines(), done.stderr.decode()
+    if done.returncode != status or printed is not None and lines != printed or complaint not in errors:
+        sys.exit(f"rowhash {' '.join(map(str, arguments))} ended with {done.returncode}: {errors}{lines[:3]}")
     return lines
+
+
+def in_readme(lines):
+    """Ends the program where the README does not show the lines as they are."""
+    for line in lines:
+        if f"\n    {line}\n" not in README:
+            sys.exit(f"the README does not show {line!r}")
 
 
 def rows_named(meaning):
@@ -101,6 +109,7 @@ def try_hash():
         expect(["hash", EXAMPLE, *chosen], 0, numbers(state, [0]))
         for nodes in [[node] for node in range(19)] + [columns, columns[::-1], [1, 1, 1]]:
             expect(["hash", EXAMPLE, *nodes, *chosen], 0, numbers(state, nodes))
+    in_readme(numbers(STANDARD, [1, 2])[:2])
     expect(["hash", EXAMPLE, 19], 1, ["refused 13"], "node 19: refused 13: the image has no such node")
     expect(["hash", EXAMPLE, 1, 0], 1, ["refused 14"], "node 0: refused 14: it has not as many rows")
     expect(["hash", EXAMPLE] + [1] * 256, 1, ["refused 12"], "refused 12: 255 columns are hashed already")
@@ -138,6 +147,9 @@ def try_show():
         for row, (line, described) in enumerate(zip(lines, slots)):
             at, printed = line.split(maxsplit=1)
             assert at == str(row) and shown(*described) in (None, printed), line
+        if node == 1:
+            in_readme([lines[2], lines[3], lines[6]])
+    in_readme(nodes[:8])
     expect(["show", EXAMPLE, 19], 1, [], "19")
 
 
@@ -176,6 +188,8 @@ def try_refused(folder):
                              (["show", EXAMPLE, 1, 2], "2: one argument too many"),
                              (["replay", "x"], "x: one argument too many")]:
         expect(words, 1, [], complaint)
+    # lines that are no text, and a last line without an end
+    expect(["replay"], 0, ["not understood", "not understood", "refused 13"], asked=b"\xff\nslot \xc3\x28 0\nslot 0 0")
     assert expect(["help"], 0)[0] == "rowhash: row hashes of archive tables"
     expect(["--version"], 0, ["rowhash 0.1.0"])
 
