@@ -171,6 +171,19 @@ def refused_images():
     ]
 
 
+def try_numbers(folder):
+    """Numbers at the sign bit of each width, and 0."""
+    file = folder / "numbers.img"
+    for width in (1, 2, 4, 8):
+        sign = 256**width // 2
+        file.write_bytes(image([record(NUMBER, 4, a=40, p=width)], little(width, 0, sign - 1, sign, -1)))
+        wanted = ["number 0", f"number {sign - 1}",
+                  f"number {sign} (signed: -{sign})", f"number {2 * sign - 1} (signed: -1)"]
+        lines = expect(["show", file, 0], 0)[1:]
+        if [line.split(maxsplit=1)[1] for line in lines] != wanted:
+            sys.exit(f"numbers of {width} bytes are shown as {lines}")
+
+
 def try_refused(folder):
     """Files that are no images, and words that are no commands."""
     file = folder / "file.img"
@@ -198,6 +211,7 @@ def main():
     with tempfile.TemporaryDirectory() as folder:
         try_hash()
         try_show()
+        try_numbers(Path(folder))
         try_refused(Path(folder))
     print(f"{told} commands: each did what it must")
 
