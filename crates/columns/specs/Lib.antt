@@ -3,3 +3,4 @@ pub mod Jobs
 pub mod Machine
 pub mod Seams
 pub mod Column
+pub mod Open

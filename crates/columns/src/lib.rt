@@ -11,9 +11,11 @@ pub mod node;
 mod reach;
 mod region;
 mod runs;
+mod selection;
 mod span;
 mod walk;
 mod words;
 
 pub use column::hash_column;
 pub use needs::node_need;
+pub use selection::Selection;
