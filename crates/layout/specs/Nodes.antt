@@ -3,7 +3,7 @@ use Rattle.std.specs.Prelude.{◌≡◌, ℕ, zero, suc, ◌+◌, ◌*◌, ◌/�
 use Rattle.layout.specs.declared.bytes.Width.{Width}
 use Rattle.layout.specs.declared.record.Record.{Record}
 use Rattle.layout.specs.declared.data_type.DataType.{DataType}
-use Rattle.layout.specs.declared.data_type.DataType.TheVariants.{Null, Boolean, Number, Float, Utf8, Binary, FixedSizeBinary, View, Dictionary, Struct, List as ListOf, ListView, Map, FixedSizeList, RunEnd}
+use Rattle.layout.specs.declared.data_type.DataType.TheVariants.{Null, View, Dictionary, Struct, List as ListOf, ListView, Map, FixedSizeList, RunEnd}
 use Rattle.layout.specs.declared.data_type.Table.{Table}
 use Rattle.layout.specs.declared.data_type.Table.TheVariants.{Unread, Children, Pairs}
 use Rattle.layout.specs.Bytes.{field, bit, wide}
@@ -16,13 +16,6 @@ some_below (suc n) test = test n || some_below n test
 
 -- what TAB lists, and how many entries it may have
 abbrev pub table : DataType → Table
-table Null = Unread
-table Boolean = Unread
-table (Number w) = Unread
-table (Float w) = Unread
-table (Utf8 w) = Unread
-table (Binary w) = Unread
-table (FixedSizeBinary p) = Unread
 table View = Pairs 65535
 table (Dictionary w signed) = Children 1 1
 table Struct = Children 0 255
@@ -31,12 +24,12 @@ table (ListView w) = Children 1 1
 table Map = Children 2 2
 table (FixedSizeList p) = Children 1 1
 table (RunEnd w) = Children 1 1
+table t = Unread
 
 -- how many of the entries of TAB are children
 abbrev pub listed : Table → ℕ → ℕ
-listed Unread count = 0
 listed (Children least most) count = count
-listed (Pairs most) count = 0
+listed t count = 0
 
 -- how many children a node has, none where it has no type
 abbrev pub child_count : Option DataType → Record → ℕ
@@ -58,20 +51,8 @@ ChildThere bytes r k = (r.tab + 4 * k + 4 ≤ length bytes) × (4 + 36 * child b
 -- whether NULLS is read, and stands for a bitmap where it is not 0
 abbrev pub reads_nulls : DataType → Bool
 reads_nulls Null = false
-reads_nulls Boolean = true
-reads_nulls (Number w) = true
-reads_nulls (Float w) = true
-reads_nulls (Utf8 w) = true
-reads_nulls (Binary w) = true
-reads_nulls (FixedSizeBinary p) = true
-reads_nulls View = true
-reads_nulls (Dictionary w signed) = true
-reads_nulls Struct = true
-reads_nulls (ListOf w) = true
-reads_nulls (ListView w) = true
-reads_nulls Map = true
-reads_nulls (FixedSizeList p) = true
 reads_nulls (RunEnd w) = false
+reads_nulls t = true
 
 -- a row is marked null where its bit in the validity bitmap is 0; without a bitmap no row is
 abbrev pub marked : List ℕ → Record → ℕ → Bool

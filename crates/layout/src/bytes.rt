@@ -15,6 +15,7 @@ pub enum Width {
 }
 
 impl Width {
+    // The bytes of a number of this width.
     pub fn bytes(self) -> u32
         ensures { result ≡ wide self }
     {
@@ -46,6 +47,7 @@ pub trait Native: Sized {
 
     ghost value: { Self → ℕ };
 
+    // The number that stands at a place, all of which is inside.
     fn load(bytes: &[u8], place: usize) -> Self
         requires { place + wide width ≤ length bytes.now }
         ensures { value result ≡ field (wide width) bytes.now place };
@@ -105,6 +107,7 @@ impl Native for u64 {
     }
 }
 
+// The number of a width that stands at a place.
 pub fn word_at(width: Width, bytes: &[u8], place: usize) -> u64
     requires { place + wide width ≤ length bytes.now }
     ensures { result ≡ field (wide width) bytes.now place }

@@ -1,4 +1,4 @@
-// A node's column: its record, and the image that the record stands in.
+// What is read of a node by its record.
 ghost use Rattle.std.specs.Prelude.{◌≡◌, ◌+◌, ◌*◌, ◌≤◌, true, ◌&&◌, length};
 ghost use Rattle.layout.specs.Bytes.{wide};
 ghost use Rattle.layout.specs.Nodes.{ChildThere, HoldsBit, child, child_rows, element, marked, reads_nulls};
@@ -9,6 +9,7 @@ use crate::bytes::{Native, Width, bit_at, element_at};
 use crate::data_type::DataType;
 use crate::record::Record;
 
+// A node's column: its record, and the image that the record stands in.
 #[derive(Clone, Copy)]
 pub struct Column<'a> {
     pub bytes: &'a [u8],
@@ -16,6 +17,7 @@ pub struct Column<'a> {
 }
 
 impl<'a> Column<'a> {
+    // The column of a node, whose record is inside.
     pub fn read(bytes: &'a [u8], node: usize) -> Column<'a>
         requires { 4 + 36 * node + 36 ≤ length bytes.now }
         ensures bytes { result.bytes.now ≡ bytes.now }

@@ -4,8 +4,11 @@ ghost use Rattle.layout.specs.Nodes.{child_count, listed, reads_nulls, table};
 ghost use Rattle.layout.specs.Types.{data_type, kind_of, width};
 
 use crate::bytes::Width;
+use crate::kind::Kind;
 use crate::record::Record;
 
+// A kind with what P and B say of it: the width of its numbers, offsets, keys or run ends, or the fixed size of a row, in
+// bytes of a FixedSizeBinary and in child rows of a FixedSizeList, up to 65,535.
 #[derive(Clone, Copy)]
 pub enum DataType {
     Null,
@@ -36,29 +39,30 @@ pub enum Table {
 }
 
 impl DataType {
-    // Its KIND.
-    pub fn kind(self) -> u32
+    // Its kind alone.
+    pub fn kind(self) -> Kind
         ensures { result ≡ kind_of self }
     {
         match self {
-            DataType::Null => 1,
-            DataType::Boolean => 2,
-            DataType::Number(_) => 3,
-            DataType::Float(_) => 4,
-            DataType::Utf8(_) => 6,
-            DataType::Binary(_) => 7,
-            DataType::FixedSizeBinary(_) => 8,
-            DataType::View => 9,
-            DataType::Dictionary(_, _) => 10,
-            DataType::Struct => 11,
-            DataType::List(_) => 12,
-            DataType::ListView(_) => 13,
-            DataType::Map => 14,
-            DataType::FixedSizeList(_) => 15,
-            DataType::RunEnd(_) => 16,
+            DataType::Null => Kind::Null,
+            DataType::Boolean => Kind::Boolean,
+            DataType::Number(_) => Kind::Number,
+            DataType::Float(_) => Kind::Float,
+            DataType::Utf8(_) => Kind::Utf8,
+            DataType::Binary(_) => Kind::Binary,
+            DataType::FixedSizeBinary(_) => Kind::FixedSizeBinary,
+            DataType::View => Kind::View,
+            DataType::Dictionary(_, _) => Kind::Dictionary,
+            DataType::Struct => Kind::Struct,
+            DataType::List(_) => Kind::List,
+            DataType::ListView(_) => Kind::ListView,
+            DataType::Map => Kind::Map,
+            DataType::FixedSizeList(_) => Kind::FixedSizeList,
+            DataType::RunEnd(_) => Kind::RunEnd,
         }
     }
 
+    // What its TAB lists.
     pub fn table(self) -> Table
         ensures { result ≡ table self }
     {
@@ -96,7 +100,7 @@ impl Table {
 }
 
 impl Width {
-    // The width of p bytes, of which there are at least so many. No `TryFrom`: what is least stands beside the number.
+    // The width of p bytes, where p is 1, 2, 4 or 8 and at least `least`.
     pub fn of(p: u32, least: u32) -> Option<Width>
         ensures { result ≡ width p least }
     {
@@ -111,8 +115,7 @@ impl Width {
 }
 
 impl Record {
-    // The type that KIND, P and B tell, or none where they stand in no line of the table. No `TryFrom`: there is one way
-    // to fail, which has no name of its own, and each caller refuses it in its own words.
+    // The type that KIND, P and B tell, or none where they stand in no line of the table.
     pub fn data_type(&self) -> Option<DataType>
         ensures { result ≡ data_type self.now }
     {

@@ -4,4 +4,5 @@
 pub mod bytes;
 pub mod column;
 pub mod data_type;
+pub mod kind;
 pub mod record;

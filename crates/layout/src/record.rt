@@ -19,6 +19,7 @@ pub struct Record {
 }
 
 impl Record {
+    // The record of a node, which is inside.
     pub fn read(bytes: &[u8], node: usize) -> Record
         requires { 4 + 36 * node + 36 ≤ length bytes.now }
         ensures { result ≡ record_at bytes.now node }
