@@ -3,7 +3,7 @@ use Rattle.std.proofs.Common.{◌≡◌, ℕ, ◌+◌, ◌*◌, ◌<◌, ◌≤�
 use Rattle.std.proofs.lemmas.Bool.Decides.{nat_tests}
 use Rattle.layout.specs.declared.record.Record.{Record}
 use Rattle.layout.specs.declared.data_type.DataType.{DataType}
-use Rattle.layout.specs.declared.data_type.DataType.TheVariants.{Null, Boolean, Number, Float, Utf8, Binary, FixedSizeBinary, View, Dictionary, Struct, List as ListOf, ListView, Map, FixedSizeList, RunEnd}
+use Rattle.layout.specs.declared.data_type.DataType.TheVariants.{View, Dictionary, Struct, List as ListOf, ListView, Map, FixedSizeList, RunEnd}
 use Rattle.layout.specs.declared.data_type.Table.{Table}
 use Rattle.layout.specs.declared.data_type.Table.TheVariants.{Unread, Children, Pairs}
 use Rattle.layout.specs.Nodes.{ChildThere, child, listed, table}
@@ -42,13 +42,6 @@ module _ (bytes : List ℕ) (node : ℕ) (r : Record) where
 
     -- what TAB lists can be read, once the table and the children have passed
     pub linked : (t : DataType) → bad_table (length bytes) (table t) r ≡ false → bad_child bytes node (table t) r ≡ false → Linked bytes t r
-    linked Null e f = tt
-    linked Boolean e f = tt
-    linked (Number w) e f = tt
-    linked (Float w) e f = tt
-    linked (Utf8 w) e f = tt
-    linked (Binary w) e f = tt
-    linked (FixedSizeBinary p) e f = tt
     linked View e f = pairs_inside (length bytes) 65535 r e
     linked (Dictionary w signed) e f = least_there 1 1 e f 0 (omega arith)
     linked Struct e f = children_there 0 255 e f
@@ -57,3 +50,4 @@ module _ (bytes : List ℕ) (node : ℕ) (r : Record) where
     linked Map e f = (least_there 2 2 e f 0 (omega arith), least_there 2 2 e f 1 (omega arith))
     linked (FixedSizeList p) e f = least_there 1 1 e f 0 (omega arith)
     linked (RunEnd w) e f = least_there 1 1 e f 0 (omega arith)
+    linked t e f = tt

@@ -9,12 +9,16 @@ use Rattle.admission.specs.declared.fault.ImageFault.{ImageFault}
 use Rattle.admission.specs.declared.fault.ImageFault.TheVariants.{Header, Kind, Length, Table, Child, Height, Buffer, Order, Reach, View}
 use Rattle.admission.specs.Rejections.{too_long, bad_table, bad_child, too_high, bad_buffer, bad_order, out_of_reach, bad_views}
 
--- 1: under 4 bytes, under 4 + 36 for each node, over 1,073,741,824 bytes, or no 1 to 256 nodes
+-- so many bytes are no image of so many nodes: under 4 bytes, under 4 + 36 for each node, over 1,073,741,824 bytes, or no 1 to 256 nodes
+abbrev pub bad_size : ℕ → ℕ → Bool
+bad_size len count =
+    nat_lt len 4
+    || (count == 0
+    || (nat_lt 256 count || (nat_lt len (4 + 36 * count) || nat_lt 1073741824 len)))
+
+-- 1: the bytes are no image of as many nodes as their count says
 abbrev pub bad_header : List ℕ → Bool
-bad_header bytes =
-    nat_lt (length bytes) 4
-    || (nodes bytes == 0
-    || (nat_lt 256 (nodes bytes) || (nat_lt (length bytes) (4 + 36 * nodes bytes) || nat_lt 1073741824 (length bytes))))
+bad_header bytes = bad_size (length bytes) (nodes bytes)
 
 -- the first of 7 to 10 that applies to a node of a type
 abbrev pub buffer_fault : List ℕ → DataType → Record → Option ℕ

@@ -4,7 +4,7 @@ use Rattle.layout.specs.declared.bytes.Width.{Width}
 use Rattle.layout.specs.declared.bytes.Width.TheVariants.{Four}
 use Rattle.layout.specs.declared.record.Record.{Record}
 use Rattle.layout.specs.declared.data_type.DataType.{DataType}
-use Rattle.layout.specs.declared.data_type.DataType.TheVariants.{Null, Boolean, Number, Float, Utf8, Binary, FixedSizeBinary, View, Dictionary, Struct, List as ListOf, ListView, Map, FixedSizeList, RunEnd}
+use Rattle.layout.specs.declared.data_type.DataType.TheVariants.{Boolean, Number, Float, Utf8, Binary, FixedSizeBinary, View, Dictionary, Struct, List as ListOf, ListView, Map, FixedSizeList, RunEnd}
 use Rattle.layout.specs.declared.data_type.Table.{Table}
 use Rattle.layout.specs.declared.data_type.Table.TheVariants.{Unread, Children, Pairs}
 use Rattle.layout.specs.Bytes.{field, negative, wide}
@@ -44,7 +44,6 @@ too_high bytes node = higher bytes 16 node
 
 -- 7: a buffer of the type's own is not wholly inside
 abbrev pub bad_values : List ℕ → DataType → Record → Bool
-bad_values bytes Null r = false
 bad_values bytes Boolean r = outside (length bytes) r.a (bitmap_bytes (elements r))
 bad_values bytes (Number w) r = outside (length bytes) r.a (wide w * elements r)
 bad_values bytes (Float w) r = outside (length bytes) r.a (wide w * elements r)
@@ -55,12 +54,11 @@ bad_values bytes View r =
     outside (length bytes) r.a (16 * elements r)
     || some_below r.cnt (λ k. outside (length bytes) (buffer_place bytes r k) (buffer_length bytes r k))
 bad_values bytes (Dictionary w signed) r = outside (length bytes) r.a (wide w * elements r)
-bad_values bytes Struct r = false
 bad_values bytes (ListOf w) r = outside (length bytes) r.a (wide w * (elements r + 1))
 bad_values bytes (ListView w) r = outside (length bytes) r.a (wide w * elements r) || outside (length bytes) r.b (wide w * elements r)
 bad_values bytes Map r = outside (length bytes) r.a (4 * (elements r + 1))
-bad_values bytes (FixedSizeList p) r = false
 bad_values bytes (RunEnd w) r = outside (length bytes) r.a (wide w * child_rows bytes r 0)
+bad_values bytes t r = false
 
 -- 7: the bitmap, a buffer or a view's data buffer is not wholly inside
 abbrev pub bad_buffer : List ℕ → DataType → Record → Bool
@@ -68,41 +66,37 @@ bad_buffer bytes t r =
     (reads_nulls t && (not (r.nulls == 0) && outside (length bytes) r.nulls (bitmap_bytes (elements r))))
     || bad_values bytes t r
 
+-- the offset after a row's first is negative or falls below it
+abbrev pub bad_offset : Width → List ℕ → Record → ℕ → Bool
+bad_offset w bytes r row =
+    negative w (element w bytes r.a (r.start + row + 1))
+    || nat_lt (element w bytes r.a (r.start + row + 1)) (element w bytes r.a (r.start + row))
+
 -- 8: the first of a node's offsets is negative, or a later one is negative or falls below the one before it
 abbrev pub bad_offsets : Width → List ℕ → Record → Bool
-bad_offsets w bytes r =
-    negative w (element w bytes r.a r.start)
-    || some_below r.rows (λ k.
-    negative w (element w bytes r.a (r.start + k + 1))
-    || nat_lt (element w bytes r.a (r.start + k + 1)) (element w bytes r.a (r.start + k)))
+bad_offsets w bytes r = negative w (element w bytes r.a r.start) || some_below r.rows (bad_offset w bytes r)
 
 -- the run end before a run, 0 before the first
 abbrev pub end_before : Width → List ℕ → Record → ℕ → ℕ
 end_before w bytes r zero = 0
 end_before w bytes r (suc k) = element w bytes r.a k
 
+-- a run's end is negative or not above the end before it
+abbrev pub bad_run_end : Width → List ℕ → Record → ℕ → Bool
+bad_run_end w bytes r k = negative w (element w bytes r.a k) || nat_le (element w bytes r.a k) (end_before w bytes r k)
+
 -- 8: a run end is negative or not above the one before it, the first not above 0
 abbrev pub bad_run_ends : Width → List ℕ → Record → Bool
-bad_run_ends w bytes r =
-    some_below (child_rows bytes r 0) (λ k. negative w (element w bytes r.a k) || nat_le (element w bytes r.a k) (end_before w bytes r k))
+bad_run_ends w bytes r = some_below (child_rows bytes r 0) (bad_run_end w bytes r)
 
 -- 8: offsets are negative or fall, or run ends are not above 0 and rising
 abbrev pub bad_order : List ℕ → DataType → Record → Bool
-bad_order bytes Null r = false
-bad_order bytes Boolean r = false
-bad_order bytes (Number w) r = false
-bad_order bytes (Float w) r = false
 bad_order bytes (Utf8 w) r = bad_offsets w bytes r
 bad_order bytes (Binary w) r = bad_offsets w bytes r
-bad_order bytes (FixedSizeBinary p) r = false
-bad_order bytes View r = false
-bad_order bytes (Dictionary w signed) r = false
-bad_order bytes Struct r = false
 bad_order bytes (ListOf w) r = bad_offsets w bytes r
-bad_order bytes (ListView w) r = false
 bad_order bytes Map r = bad_offsets Four bytes r
-bad_order bytes (FixedSizeList p) r = false
 bad_order bytes (RunEnd w) r = bad_run_ends w bytes r
+bad_order bytes t r = false
 
 -- the last of a node's offsets: where no offset is negative, the number that stands there
 abbrev pub last_offset : Width → List ℕ → Record → ℕ
@@ -137,13 +131,8 @@ bad_runs bytes w r = nat_lt 0 (elements r) && nat_lt (end_before w bytes r (chil
 
 -- 9: a row reaches a child row or byte that is not there
 abbrev pub out_of_reach : List ℕ → DataType → Record → Bool
-out_of_reach bytes Null r = false
-out_of_reach bytes Boolean r = false
-out_of_reach bytes (Number w) r = false
-out_of_reach bytes (Float w) r = false
 out_of_reach bytes (Utf8 w) r = outside (length bytes) r.b (last_offset w bytes r)
 out_of_reach bytes (Binary w) r = outside (length bytes) r.b (last_offset w bytes r)
-out_of_reach bytes (FixedSizeBinary p) r = false
 out_of_reach bytes View r = some_below r.rows (λ row. bad_reference bytes r row (view_place r row))
 out_of_reach bytes (Dictionary w signed) r = some_below r.rows (bad_key bytes w signed r)
 out_of_reach bytes Struct r = some_below r.cnt (λ k. nat_lt (child_rows bytes r k) (elements r))
@@ -152,6 +141,7 @@ out_of_reach bytes (ListView w) r = some_below r.rows (bad_list_view bytes w r)
 out_of_reach bytes Map r = nat_lt (child_rows bytes r 0) (last_offset Four bytes r) || nat_lt (child_rows bytes r 1) (last_offset Four bytes r)
 out_of_reach bytes (FixedSizeList p) r = nat_lt (child_rows bytes r 0) (p * elements r)
 out_of_reach bytes (RunEnd w) r = bad_runs bytes w r
+out_of_reach bytes t r = false
 
 -- the bytes after a short view's own are not all 0
 abbrev pub bad_padding : List ℕ → ℕ → Bool
@@ -169,18 +159,5 @@ bad_view bytes r row view = not (marked bytes r row) && cond (is_long bytes view
 
 -- 10: a column of views has a row whose view is bad
 abbrev pub bad_views : List ℕ → DataType → Record → Bool
-bad_views bytes Null r = false
-bad_views bytes Boolean r = false
-bad_views bytes (Number w) r = false
-bad_views bytes (Float w) r = false
-bad_views bytes (Utf8 w) r = false
-bad_views bytes (Binary w) r = false
-bad_views bytes (FixedSizeBinary p) r = false
 bad_views bytes View r = some_below r.rows (λ row. bad_view bytes r row (view_place r row))
-bad_views bytes (Dictionary w signed) r = false
-bad_views bytes Struct r = false
-bad_views bytes (ListOf w) r = false
-bad_views bytes (ListView w) r = false
-bad_views bytes Map r = false
-bad_views bytes (FixedSizeList p) r = false
-bad_views bytes (RunEnd w) r = false
+bad_views bytes t r = false

@@ -4,7 +4,7 @@ use Rattle.std.specs.Coded.{×_prop, Π_prop, Unit-prop, le_prop}
 use Rattle.layout.specs.declared.bytes.Width.{Width}
 use Rattle.layout.specs.declared.record.Record.{Record}
 use Rattle.layout.specs.declared.data_type.DataType.{DataType}
-use Rattle.layout.specs.declared.data_type.DataType.TheVariants.{Null, Boolean, Number, Float, Utf8, Binary, FixedSizeBinary, View, Dictionary, Struct, List as ListOf, ListView, Map, FixedSizeList, RunEnd}
+use Rattle.layout.specs.declared.data_type.DataType.TheVariants.{View, Dictionary, Struct, List as ListOf, ListView, Map, FixedSizeList, RunEnd}
 use Rattle.layout.specs.Bytes.{wide}
 use Rattle.layout.specs.Nodes.{ChildThere, HoldsBit, child, marked}
 use Rattle.layout.specs.Records.{nodes}
@@ -17,13 +17,6 @@ Headed bytes = 4 + 36 * nodes bytes ≤ length bytes
 
 -- what TAB lists can be read: children with their records, or pairs
 abbrev pub Linked : List ℕ → DataType → Record → Type 0
-Linked bytes Null r = Unit {0}
-Linked bytes Boolean r = Unit {0}
-Linked bytes (Number w) r = Unit {0}
-Linked bytes (Float w) r = Unit {0}
-Linked bytes (Utf8 w) r = Unit {0}
-Linked bytes (Binary w) r = Unit {0}
-Linked bytes (FixedSizeBinary p) r = Unit {0}
 Linked bytes View r = (k : ℕ) → k < r.cnt → r.tab + 8 * k + 8 ≤ length bytes
 Linked bytes (Dictionary w signed) r = ChildThere bytes r 0
 Linked bytes Struct r = (k : ℕ) → k < r.cnt → ChildThere bytes r k
@@ -32,16 +25,10 @@ Linked bytes (ListView w) r = ChildThere bytes r 0
 Linked bytes Map r = ChildThere bytes r 0 × ChildThere bytes r 1
 Linked bytes (FixedSizeList p) r = ChildThere bytes r 0
 Linked bytes (RunEnd w) r = ChildThere bytes r 0
+Linked bytes t r = Unit {0}
 
 -- which has one proof at most, as a field that keeps it asks
 pub Linked-prop : (bytes : List ℕ) (t : DataType) (r : Record) → IsProp (Linked bytes t r)
-Linked-prop bytes Null r = Unit-prop
-Linked-prop bytes Boolean r = Unit-prop
-Linked-prop bytes (Number w) r = Unit-prop
-Linked-prop bytes (Float w) r = Unit-prop
-Linked-prop bytes (Utf8 w) r = Unit-prop
-Linked-prop bytes (Binary w) r = Unit-prop
-Linked-prop bytes (FixedSizeBinary p) r = Unit-prop
 Linked-prop bytes View r = Π_prop (λ k. Π_prop (λ h. le_prop))
 Linked-prop bytes (Dictionary w signed) r = ×_prop le_prop le_prop
 Linked-prop bytes Struct r = Π_prop (λ k. Π_prop (λ h. ×_prop le_prop le_prop))
@@ -50,6 +37,7 @@ Linked-prop bytes (ListView w) r = ×_prop le_prop le_prop
 Linked-prop bytes Map r = ×_prop (×_prop le_prop le_prop) (×_prop le_prop le_prop)
 Linked-prop bytes (FixedSizeList p) r = ×_prop le_prop le_prop
 Linked-prop bytes (RunEnd w) r = ×_prop le_prop le_prop
+Linked-prop bytes t r = Unit-prop
 
 -- element k of a buffer can be read
 abbrev pub ElementThere : Width → List ℕ → ℕ → ℕ → Type 0

@@ -46,7 +46,6 @@ impl Node<'_> {
         let r = self.column.record;
         let elements = r.elements();
         match self.data_type {
-            DataType::Null | DataType::Struct | DataType::FixedSizeList(_) => false,
             DataType::Boolean => self.is_bitmap_outside(r.a),
             DataType::Number(w) | DataType::Float(w) | DataType::Dictionary(w, _) => {
                 self.is_buffer_outside(r.a, w.bytes(), elements)
@@ -67,6 +66,7 @@ impl Node<'_> {
             DataType::RunEnd(w) => {
                 self.is_buffer_outside(r.a, w.bytes(), u64::from(self.column.child_rows(0)))
             }
+            _ => false,
         }
     }
 

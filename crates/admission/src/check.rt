@@ -38,8 +38,7 @@ impl Node<'_> {
     }
 }
 
-// The height of a node, or its first fault. The count goes on by itself: a struct of it and the bytes would have three
-// uses, and be no plainer.
+// The height of a node, or its first fault, by the heights of the nodes behind it.
 fn check_node(bytes: &[u8], count: u32, node: u32, heights: &[u8; 256]) -> Result<u8, ImageFault>
     requires headed { Headed bytes.now }
     requires count { (count ≡ nodes bytes.now) × (count ≤ 256) }

@@ -2,8 +2,7 @@
 ghost use Rattle.std.specs.Prelude.{◌≡◌};
 ghost use Rattle.admission.specs.FirstFault.{numbered};
 
-// Each case but the first with its node, one for each number of the format: a struct of a node and a rejection would
-// need its own match for the numbers, and the header's a node that it has not.
+// The rejection, a case for each number of the format, and the node that it applies to. The header has no node.
 #[derive(Clone, Copy, Debug)]
 pub enum ImageFault {
     Header,
@@ -19,7 +18,7 @@ pub enum ImageFault {
 }
 
 impl ImageFault {
-    // The rejection's number, and its node. No `From`: it names the refusal, and is not made of it.
+    // The rejection's number, 1 to 10, and its node, 0 for the header.
     pub fn numbered(self) -> (u32, u32)
         ensures { result ≡ numbered self }
     {

@@ -1,9 +1,9 @@
 // Whether offsets and run ends are in order.
-ghost use Rattle.std.specs.Prelude.{◌≡◌, ◌+◌, ◌*◌, ◌≤◌, false, ◌||◌, length, nat_le, nat_lt};
-ghost use Rattle.admission.specs.Rejections.{bad_offsets, bad_order, bad_run_ends, bad_values, end_before};
+ghost use Rattle.std.specs.Prelude.{◌≡◌, ◌+◌, ◌*◌, ◌≤◌, false, length};
+ghost use Rattle.admission.specs.Rejections.{bad_offset, bad_offsets, bad_order, bad_run_end, bad_run_ends, bad_values, end_before};
 ghost use Rattle.admission.specs.Seams.{ElementThere};
-ghost use Rattle.layout.specs.Bytes.{negative, wide};
-ghost use Rattle.layout.specs.Nodes.{ChildThere, child_rows, element};
+ghost use Rattle.layout.specs.Bytes.{wide};
+ghost use Rattle.layout.specs.Nodes.{ChildThere, child_rows};
 ghost use Rattle.layout.specs.Records.{elements};
 
 use crate::node::Node;
@@ -14,7 +14,7 @@ impl Node<'_> {
     // An offset after a row's first that is negative or falls.
     fn is_bad_offset(&self, width: Width, row: u32) -> bool
         requires { ElementThere width self.now.column.bytes.now self.now.column.record.a (self.now.column.record.start + row + 1) }
-        ensures { let bytes = self.now.column.bytes.now in let r = self.now.column.record in result ≡ (negative width (element width bytes r.a (r.start + row + 1)) || nat_lt (element width bytes r.a (r.start + row + 1)) (element width bytes r.a (r.start + row))) }
+        ensures { result ≡ bad_offset width self.now.column.bytes.now self.now.column.record row }
     {
         let at = self.column.element(row);
         let before = self.column.number(width, at);
@@ -45,7 +45,7 @@ impl Node<'_> {
     // A run end that is negative or not above the one before it.
     fn is_bad_run_end(&self, width: Width, run: u32) -> bool
         requires { ElementThere width self.now.column.bytes.now self.now.column.record.a run }
-        ensures { let bytes = self.now.column.bytes.now in let r = self.now.column.record in result ≡ (negative width (element width bytes r.a run) || nat_le (element width bytes r.a run) (end_before width bytes r run)) }
+        ensures { result ≡ bad_run_end width self.now.column.bytes.now self.now.column.record run }
     {
         let end = self.column.number(width, run as usize);
         width.negative(end) || end <= self.end_before(width, run)
