@@ -6,7 +6,7 @@ use Rattle.std.specs.List.{range_with_len}
 use Rattle.layout.specs.declared.bytes.Width.TheVariants.{Four}
 use Rattle.layout.specs.declared.record.Record.{Record}
 use Rattle.layout.specs.declared.data_type.DataType.{DataType}
-use Rattle.layout.specs.declared.data_type.DataType.TheVariants.{Null, Boolean, Number, Float, Utf8, Binary, FixedSizeBinary, View, Dictionary, Struct, List as ListOf, ListView, Map, FixedSizeList, RunEnd}
+use Rattle.layout.specs.declared.data_type.DataType.TheVariants.{Dictionary, Struct, List as ListOf, ListView, Map, FixedSizeList, RunEnd}
 use Rattle.layout.specs.Nodes.{child, child_count, element, listed, marked, reads_nulls, some_below, table}
 use Rattle.layout.specs.Records.{nodes, record_at}
 use Rattle.layout.specs.Types.{data_type}
@@ -27,14 +27,6 @@ counting_same f g (suc n) a b l h = ap₂ ◌∷◌ (h a (omega arith)) (countin
 module _ (bytes : List ℕ) (r : Record) (f g : ℕ → ℕ → Slot) (row at : ℕ) where
   unmarked_same : (t : DataType) → bad_table (length bytes) (table t) r ≡ false → ((k : ℕ) → k < listed (table t) r.cnt → (i : ℕ) → f (child bytes r k) i ≡ g (child bytes r k) i)
       → unmarked t bytes r f row at ≡ unmarked t bytes r g row at
-  unmarked_same Null e same = refl
-  unmarked_same Boolean e same = refl
-  unmarked_same (Number w) e same = refl
-  unmarked_same (Float w) e same = refl
-  unmarked_same (Utf8 w) e same = refl
-  unmarked_same (Binary w) e same = refl
-  unmarked_same (FixedSizeBinary p) e same = refl
-  unmarked_same View e same = refl
   unmarked_same (Dictionary w signed) e same = ap refer (same 0 (children_parts (length bytes) 1 1 r e).0 _)
   unmarked_same Struct e same = ap (λ x. struct (slots x)) (counting_same _ _ r.cnt 0 r.cnt (omega arith) (λ k l. same k l at))
   unmarked_same (ListOf w) e same = ap (λ d. sequence_of d (offset w bytes r at) (span w bytes r at)) (fun_ext (same 0 (children_parts (length bytes) 1 1 r e).0))
@@ -44,6 +36,7 @@ module _ (bytes : List ℕ) (r : Record) (f g : ℕ → ℕ → Slot) (row at : 
       ap₂ (λ k v. entries (paired k v (range_with_len (offset Four bytes r at) (span Four bytes r at)))) (fun_ext (same 0 (omega arith))) (fun_ext (same 1 (omega arith)))
   unmarked_same (FixedSizeList p) e same = ap (λ d. sequence_of d (p * at) p) (fun_ext (same 0 (children_parts (length bytes) 1 1 r e).0))
   unmarked_same (RunEnd w) e same = ap refer (same 0 (children_parts (length bytes) 1 1 r e).0 _)
+  unmarked_same t e same = refl
 
 module _ (bytes : List ℕ) (is-sound : sound bytes ≡ true) where
   abbrev by_type : (ℕ → ℕ → Slot) → ℕ → ℕ → Option DataType → Slot

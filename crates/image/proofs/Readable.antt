@@ -4,7 +4,7 @@ use Rattle.std.proofs.lemmas.Bool.{cases_eq, ltb-false, or_parts}
 use Rattle.layout.specs.declared.bytes.Width.{Width}
 use Rattle.layout.specs.declared.record.Record.{Record}
 use Rattle.layout.specs.declared.data_type.DataType.{DataType}
-use Rattle.layout.specs.declared.data_type.DataType.TheVariants.{Null, Boolean, Number, Float, Utf8, Binary, FixedSizeBinary, View, Dictionary, Struct, List as ListOf, ListView, Map, FixedSizeList, RunEnd}
+use Rattle.layout.specs.declared.data_type.DataType.TheVariants.{Boolean, Number, Float, Utf8, Binary, FixedSizeBinary, View}
 use Rattle.layout.specs.Bytes.{negative, wide}
 use Rattle.layout.specs.Nodes.{HoldsBit, bitmap_bytes, element, reads_nulls}
 use Rattle.layout.specs.Records.{elements, nodes, record_at}
@@ -76,7 +76,6 @@ module _ (bytes : List ℕ) (node row : ℕ) (r : Record) (headed : Headed bytes
 
   -- the value or the bytes of a row can be read
   pub readable : (t : DataType) → Passed bytes node t r → Readable t bytes r row
-  readable Null p = tt
   readable Boolean p = let e = ltb-false (length bytes) (r.a + bitmap_bytes (elements r)) (values Boolean p) in omega arith
   readable (Number w) p = element_there w (values (Number w) p)
   readable (Float w) p = element_there w (values (Float w) p)
@@ -84,13 +83,7 @@ module _ (bytes : List ℕ) (node row : ℕ) (r : Record) (headed : Headed bytes
   readable (Binary w) p = bytes_there w p.ordered (values (Binary w) p) p.reached
   readable (FixedSizeBinary s) p = one_inside s r.a (r.start + row) (elements r) (length bytes) (omega arith) (ltb-false (length bytes) (r.a + s * elements r) (values (FixedSizeBinary s) p))
   readable View p = view_there bytes r (linked bytes node r headed View p.tabled p.lined) p.inside p.reached row there
-  readable (Dictionary w signed) p = tt
-  readable Struct p = tt
-  readable (ListOf w) p = tt
-  readable (ListView w) p = tt
-  readable Map p = tt
-  readable (FixedSizeList s) p = tt
-  readable (RunEnd w) p = tt
+  readable t p = tt
 
   -- the bitmap, where NULLS is read, holds the bit of a row
   pub bit_there : (t : DataType) → Passed bytes node t r → reads_nulls t ≡ true → HoldsBit bytes r row

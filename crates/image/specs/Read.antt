@@ -25,10 +25,22 @@ offset w bytes r k = element w bytes r.a k
 abbrev pub span : Width → List ℕ → Record → ℕ → ℕ
 span w bytes r k = offset w bytes r (k + 1) - offset w bytes r k
 
+-- where the bytes of an element begin, of a type with offsets
+abbrev pub span_place : Width → List ℕ → Record → ℕ → ℕ
+span_place w bytes r at = r.b + offset w bytes r at
+
+-- the bytes of an element, from its offset to the next
+abbrev pub span_bytes : Width → List ℕ → Record → ℕ → List ℕ
+span_bytes w bytes r at = part bytes (span_place w bytes r at) (span w bytes r at)
+
 -- where the bytes of a view stand: in the view itself, or in a data buffer
 abbrev pub view_bytes_place : List ℕ → Record → ℕ → ℕ
 view_bytes_place bytes r v =
     cond (is_long bytes v) (buffer_place bytes r (view_buffer bytes v) + view_offset bytes v) (v + 4)
+
+-- the bytes that a view stands for
+abbrev pub view_bytes : List ℕ → Record → ℕ → List ℕ
+view_bytes bytes r v = part bytes (view_bytes_place bytes r v) (view_length bytes v)
 
 -- the first number that passes a test, n if none below n does
 abbrev pub first_below : ℕ → (ℕ → Bool) → ℕ
@@ -49,10 +61,10 @@ unmarked Null bytes r down row at = nothing
 unmarked Boolean bytes r down row at = boolean (bit bytes r.a at)
 unmarked (Number w) bytes r down row at = number (wide w) (element w bytes r.a at)
 unmarked (Float w) bytes r down row at = float (wide w) (element w bytes r.a at)
-unmarked (Utf8 w) bytes r down row at = text (part bytes (r.b + offset w bytes r at) (span w bytes r at))
-unmarked (Binary w) bytes r down row at = binary (part bytes (r.b + offset w bytes r at) (span w bytes r at))
+unmarked (Utf8 w) bytes r down row at = text (span_bytes w bytes r at)
+unmarked (Binary w) bytes r down row at = binary (span_bytes w bytes r at)
 unmarked (FixedSizeBinary p) bytes r down row at = binary (part bytes (r.a + p * at) p)
-unmarked View bytes r down row at = view (part bytes (view_bytes_place bytes r (view_place r row)) (view_length bytes (view_place r row)))
+unmarked View bytes r down row at = view (view_bytes bytes r (view_place r row))
 unmarked (Dictionary w signed) bytes r down row at = refer (down (child bytes r 0) (element w bytes r.a at))
 unmarked Struct bytes r down row at = struct (slots (map (λ k. down (child bytes r k) at) (range_with_len 0 r.cnt)))
 unmarked (ListOf w) bytes r down row at = sequence_of (down (child bytes r 0)) (offset w bytes r at) (span w bytes r at)

@@ -3,7 +3,7 @@ use Rattle.std.specs.Prelude.{ℕ, ◌+◌, ◌*◌, ◌/◌, ◌<◌, ◌≤◌
 use Rattle.layout.specs.declared.bytes.Width.{Width}
 use Rattle.layout.specs.declared.record.Record.{Record}
 use Rattle.layout.specs.declared.data_type.DataType.{DataType}
-use Rattle.layout.specs.declared.data_type.DataType.TheVariants.{Null, Boolean, Number, Float, Utf8, Binary, FixedSizeBinary, View, Dictionary, Struct, List as ListOf, ListView, Map, FixedSizeList, RunEnd}
+use Rattle.layout.specs.declared.data_type.DataType.TheVariants.{Boolean, Number, Float, Utf8, Binary, FixedSizeBinary, View}
 use Rattle.admission.specs.Seams.{ElementThere, ViewThere}
 use Rattle.image.specs.Read.{offset}
 
@@ -17,7 +17,6 @@ SpanThere w bytes r at =
 
 -- the value or the bytes of a row can be read, by its type
 abbrev pub Readable : DataType → List ℕ → Record → ℕ → Type 0
-Readable Null bytes r row = Unit {0}
 Readable Boolean bytes r row = r.a + (r.start + row) / 8 < length bytes
 Readable (Number w) bytes r row = ElementThere w bytes r.a (r.start + row)
 Readable (Float w) bytes r row = ElementThere w bytes r.a (r.start + row)
@@ -25,10 +24,4 @@ Readable (Utf8 w) bytes r row = SpanThere w bytes r (r.start + row)
 Readable (Binary w) bytes r row = SpanThere w bytes r (r.start + row)
 Readable (FixedSizeBinary p) bytes r row = r.a + p * (r.start + row) + p ≤ length bytes
 Readable View bytes r row = ViewThere bytes r row
-Readable (Dictionary w signed) bytes r row = Unit {0}
-Readable Struct bytes r row = Unit {0}
-Readable (ListOf w) bytes r row = Unit {0}
-Readable (ListView w) bytes r row = Unit {0}
-Readable Map bytes r row = Unit {0}
-Readable (FixedSizeList p) bytes r row = Unit {0}
-Readable (RunEnd w) bytes r row = Unit {0}
+Readable t bytes r row = Unit {0}

@@ -2,20 +2,20 @@
 use Rattle.std.specs.Prelude.{ℕ, ◌+◌, ◌*◌, Bool, cond, List, Some, None, Ok, Err, Option, Result, nat_lt}
 use Rattle.layout.specs.declared.record.Record.{Record}
 use Rattle.layout.specs.declared.data_type.DataType.{DataType}
-use Rattle.layout.specs.declared.data_type.DataType.TheVariants.{Null, Boolean, Number, Float, Utf8, Binary, FixedSizeBinary, View, Dictionary, Struct, List as ListOf, ListView, Map, FixedSizeList, RunEnd}
+use Rattle.layout.specs.declared.data_type.DataType.TheVariants.{Utf8, Binary, FixedSizeBinary, View}
 use Rattle.layout.specs.Bytes.{wide}
 use Rattle.layout.specs.Nodes.{child, child_count}
 use Rattle.layout.specs.Records.{nodes, record_at}
-use Rattle.layout.specs.Types.{data_type, kind_of}
+use Rattle.layout.specs.Types.{data_type, kind_number, kind_of}
 use Rattle.layout.specs.Views.{view_place}
 use Rattle.image.specs.declared.value.SlotValue.{SlotValue}
 use Rattle.image.specs.declared.value.SlotValue.TheVariants as variant
 use Rattle.image.specs.declared.value.SlotFault.{SlotFault}
 use Rattle.image.specs.declared.value.SlotFault.TheVariants.{NoNode, NoRow}
-use Rattle.image.specs.Read.{offset, slot_at, view_bytes_place}
-use Rattle.image.specs.Slot.{Slot, null, nothing, boolean, number, float, text, binary, view, refer, struct, sequence, entries}
+use Rattle.image.specs.Read.{slot_at, span_place, view_bytes_place}
+use Rattle.image.specs.Slot.{Slot, null, boolean, number, float, text, binary, view}
 
--- a slot as it is handed out: values, bytes with their place, or the kind and the type alone
+-- a slot as it is handed out: values, bytes with their place, or the KIND alone
 pub data Value : Type 0 where
   null_mark : Value
   a_boolean : Bool → Value
@@ -24,47 +24,37 @@ pub data Value : Type 0 where
   a_text : ℕ → List ℕ → Value
   a_binary : ℕ → List ℕ → Value
   a_view : ℕ → List ℕ → Value
-  kind_alone : ℕ → DataType → Value
+  kind_alone : ℕ → Value
 
--- what is handed out of a slot, of a node of a kind and a type; its bytes, if it has any, stand at a place
-abbrev pub handed_out : ℕ → DataType → ℕ → Slot → Value
-handed_out kind t place null = null_mark
-handed_out kind t place nothing = kind_alone kind t
-handed_out kind t place (boolean b) = a_boolean b
-handed_out kind t place (number w n) = a_number w n
-handed_out kind t place (float w n) = a_float w n
-handed_out kind t place (text bytes) = a_text place bytes
-handed_out kind t place (binary bytes) = a_binary place bytes
-handed_out kind t place (view bytes) = a_view place bytes
-handed_out kind t place (refer s) = kind_alone kind t
-handed_out kind t place (struct ss) = kind_alone kind t
-handed_out kind t place (sequence ss) = kind_alone kind t
-handed_out kind t place (entries es) = kind_alone kind t
+-- what is handed out of a slot of a node of a KIND; its bytes, if it has any, stand at a place
+abbrev pub handed_out : ℕ → ℕ → Slot → Value
+handed_out kind place null = null_mark
+handed_out kind place (boolean b) = a_boolean b
+handed_out kind place (number w n) = a_number w n
+handed_out kind place (float w n) = a_float w n
+handed_out kind place (text bytes) = a_text place bytes
+handed_out kind place (binary bytes) = a_binary place bytes
+handed_out kind place (view bytes) = a_view place bytes
+handed_out kind place s = kind_alone kind
 
 -- where the bytes of a row stand, of a type that has bytes
 abbrev pub bytes_place : DataType → List ℕ → Record → ℕ → ℕ
-bytes_place Null bytes r row = 0
-bytes_place Boolean bytes r row = 0
-bytes_place (Number w) bytes r row = 0
-bytes_place (Float w) bytes r row = 0
-bytes_place (Utf8 w) bytes r row = r.b + offset w bytes r (r.start + row)
-bytes_place (Binary w) bytes r row = r.b + offset w bytes r (r.start + row)
+bytes_place (Utf8 w) bytes r row = span_place w bytes r (r.start + row)
+bytes_place (Binary w) bytes r row = span_place w bytes r (r.start + row)
 bytes_place (FixedSizeBinary p) bytes r row = r.a + p * (r.start + row)
 bytes_place View bytes r row = view_bytes_place bytes r (view_place r row)
-bytes_place (Dictionary w signed) bytes r row = 0
-bytes_place Struct bytes r row = 0
-bytes_place (ListOf w) bytes r row = 0
-bytes_place (ListView w) bytes r row = 0
-bytes_place Map bytes r row = 0
-bytes_place (FixedSizeList p) bytes r row = 0
-bytes_place (RunEnd w) bytes r row = 0
+bytes_place t bytes r row = 0
+
+-- the same of a slot at a row of a node of a type
+abbrev pub typed_value : DataType → List ℕ → Record → ℕ → Slot → Value
+typed_value t bytes r row slot = handed_out (kind_number (kind_of t)) (bytes_place t bytes r row) slot
 
 -- what is handed out of a row of a node
 abbrev pub value_at : List ℕ → ℕ → ℕ → Value
 value_at bytes node row =
     elim (data_type (record_at bytes node)) [
       | None ↦ null_mark
-      | Some t ↦ handed_out (record_at bytes node).kind t (bytes_place t bytes (record_at bytes node) row) (slot_at bytes node row)
+      | Some t ↦ handed_out (record_at bytes node).kind (bytes_place t bytes (record_at bytes node) row) (slot_at bytes node row)
     ]
 
 -- the slot reader's answer: 13 where there is no such node, 17 where there is no such row
@@ -94,7 +84,7 @@ told (variant.Float w n) = a_float (wide w) n
 told (variant.Text part) = a_text part.place part.bytes.now
 told (variant.Binary part) = a_binary part.place part.bytes.now
 told (variant.View part) = a_view part.place part.bytes.now
-told (variant.Kind t) = kind_alone (kind_of t) t
+told (variant.Kind k) = kind_alone (kind_number k)
 
 -- the number of each refusal
 abbrev pub refusal : SlotFault → ℕ

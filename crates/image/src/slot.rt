@@ -2,13 +2,12 @@
 ghost use Rattle.std.specs.Prelude.{◌≡◌, ℕ, ◌+◌, ◌*◌, ◌≤◌, true, false, ◌&&◌, length};
 ghost use Rattle.admission.specs.Seams.{ViewThere};
 ghost use Rattle.image.specs.Levels.{DeepEnough};
-ghost use Rattle.image.specs.Read.{offset, part, span, typed_slot, unmarked, view_bytes_place};
+ghost use Rattle.image.specs.Read.{part, span_bytes, span_place, typed_slot, unmarked, view_bytes, view_bytes_place};
 ghost use Rattle.image.specs.Seams.{Readable, SpanThere};
 ghost use Rattle.image.specs.Slot.{Slot};
-ghost use Rattle.image.specs.Values.{answered, bytes_place, handed_out, told, value_answer};
+ghost use Rattle.image.specs.Values.{answered, told, typed_value, value_answer};
 ghost use Rattle.layout.specs.Nodes.{HoldsBit, marked, reads_nulls};
-ghost use Rattle.layout.specs.Types.{kind_of};
-ghost use Rattle.layout.specs.Views.{view_length, view_place};
+ghost use Rattle.layout.specs.Views.{view_place};
 
 use crate::place::Image;
 use crate::value::{Part, SlotFault, SlotValue};
@@ -19,8 +18,8 @@ use layout::data_type::DataType;
 // The bytes between a row's offset and the next.
 fn span_at<'a>(column: &Column<'a>, width: Width, row: u32) -> Part<'a>
     requires { SpanThere width column.now.bytes.now column.now.record (column.now.record.start + row) }
-    ensures place { result.place ≡ column.now.record.b + offset width column.now.bytes.now column.now.record (column.now.record.start + row) }
-    ensures bytes { result.bytes.now ≡ part column.now.bytes.now (column.now.record.b + offset width column.now.bytes.now column.now.record (column.now.record.start + row)) (span width column.now.bytes.now column.now.record (column.now.record.start + row)) }
+    ensures place { result.place ≡ span_place width column.now.bytes.now column.now.record (column.now.record.start + row) }
+    ensures bytes { result.bytes.now ≡ span_bytes width column.now.bytes.now column.now.record (column.now.record.start + row) }
 {
     let data = column.record.b as usize;
     let place = data + column.number(width, column.element(row)) as usize;
@@ -50,7 +49,7 @@ fn view_at<'a>(column: &Column<'a>, row: u32) -> Part<'a>
     requires there { ViewThere column.now.bytes.now column.now.record row }
     requires unmarked { marked column.now.bytes.now column.now.record row ≡ false }
     ensures place { result.place ≡ view_bytes_place column.now.bytes.now column.now.record (view_place column.now.record row) }
-    ensures bytes { result.bytes.now ≡ part column.now.bytes.now (view_bytes_place column.now.bytes.now column.now.record (view_place column.now.record row)) (view_length column.now.bytes.now (view_place column.now.record row)) }
+    ensures bytes { result.bytes.now ≡ view_bytes column.now.bytes.now column.now.record (view_place column.now.record row) }
 {
     let bytes = column.bytes;
     let view = column.view_place(row);
@@ -73,7 +72,7 @@ fn view_at<'a>(column: &Column<'a>, row: u32) -> Part<'a>
 fn unmarked_value<'a>(column: &Column<'a>, t: DataType, row: u32) -> SlotValue<'a>
     requires readable { Readable t column.now.bytes.now column.now.record row }
     requires unmarked { (reads_nulls t && marked column.now.bytes.now column.now.record row) ≡ false }
-    ensures { (down : ℕ → ℕ → Slot) → told result ≡ handed_out (kind_of t) t (bytes_place t column.now.bytes.now column.now.record row) (unmarked t column.now.bytes.now column.now.record down row (column.now.record.start + row)) }
+    ensures { let bytes = column.now.bytes.now in let r = column.now.record in (down : ℕ → ℕ → Slot) → told result ≡ typed_value t bytes r row (unmarked t bytes r down row (r.start + row)) }
 {
     let at = column.element(row);
     match t {
@@ -86,7 +85,7 @@ fn unmarked_value<'a>(column: &Column<'a>, t: DataType, row: u32) -> SlotValue<'
         DataType::Binary(w) => SlotValue::Binary(span_at(column, w, row)),
         DataType::FixedSizeBinary(size) => SlotValue::Binary(fixed_at(column, size, row)),
         DataType::View => SlotValue::View(view_at(column, row)),
-        _ => SlotValue::Kind(t),
+        _ => SlotValue::Kind(t.kind()),
     }
 }
 
@@ -94,7 +93,7 @@ fn unmarked_value<'a>(column: &Column<'a>, t: DataType, row: u32) -> SlotValue<'
 fn value<'a>(column: &Column<'a>, t: DataType, row: u32) -> SlotValue<'a>
     requires bit { reads_nulls t ≡ true → HoldsBit column.now.bytes.now column.now.record row }
     requires readable { Readable t column.now.bytes.now column.now.record row }
-    ensures { (down : ℕ → ℕ → Slot) → told result ≡ handed_out (kind_of t) t (bytes_place t column.now.bytes.now column.now.record row) (typed_slot t column.now.bytes.now column.now.record down row) }
+    ensures { let bytes = column.now.bytes.now in let r = column.now.record in (down : ℕ → ℕ → Slot) → told result ≡ typed_value t bytes r row (typed_slot t bytes r down row) }
 {
     if column.is_null(t, row) {
         return SlotValue::Null;

@@ -3,16 +3,17 @@ ghost use Rattle.std.specs.Prelude.{◌≡◌};
 ghost use Rattle.image.specs.Values.{refusal};
 
 use layout::bytes::Width;
-use layout::data_type::DataType;
+use layout::kind::Kind;
 
-// A part of the image, with its place.
+// A part of the image, with its place in bytes from the image's first.
 #[derive(Clone, Copy)]
 pub struct Part<'a> {
     pub place: usize,
     pub bytes: &'a [u8],
 }
 
-// A slot as it is handed out: bytes are a part of the image, and other slots than values are told by their column's type.
+// A slot as it is handed out: the null mark; a value, with its width where it has one; bytes as a part of the image; of a
+// row of the Null type, or of one that stands for other rows, the kind alone.
 #[derive(Clone, Copy)]
 pub enum SlotValue<'a> {
     Null,
@@ -22,9 +23,10 @@ pub enum SlotValue<'a> {
     Text(Part<'a>),
     Binary(Part<'a>),
     View(Part<'a>),
-    Kind(DataType),
+    Kind(Kind),
 }
 
+// Why no slot is handed out: there is no such node, or it has no such row.
 #[derive(Clone, Copy, Debug)]
 pub enum SlotFault {
     NoNode,
@@ -32,7 +34,7 @@ pub enum SlotFault {
 }
 
 impl SlotFault {
-    // The rejection's number. No `From`: it names the refusal, and is not made of it.
+    // The rejection's number, 13 or 17.
     pub fn number(self) -> u32
         ensures { result ≡ refusal self }
     {

@@ -52,7 +52,7 @@ returns-clause-answer c =
     let held : row < (record_at bytes node).rows = omega (arith, ap (λ r. r.rows) read) in
     let value =
     c.value.ensures (slot_within 15 bytes)
-    ∙ ap (λ (k : ℕ). handed_out k t (bytes_place t bytes r row) (typed_slot t bytes r (slot_within 15 bytes) row)) (kind_told r t c.in-Some.ensures)
+    ∙ ap (λ (k : ℕ). handed_out k (bytes_place t bytes r row) (typed_slot t bytes r (slot_within 15 bytes) row)) (kind_told r t c.in-Some.ensures)
     ∙ sym (value_typed bytes node row r t read c.in-Some.ensures) in
     ap {B = Result Value ℕ} (λ (v : Value). Ok v) value
     ∙ sym (cond-true (ltb node (nodes bytes)) (cond (ltb row (record_at bytes node).rows) (Ok (value_at bytes node row)) (Err 17)) (Err 13) (lt-ltb node (nodes bytes) there)
