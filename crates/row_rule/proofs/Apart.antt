@@ -3,7 +3,7 @@ use Rattle.std.proofs.Common.{◌≡◌, ℕ, ◌+◌, ◌*◌, ◌/◌, ◌^◌
 use Rattle.std.proofs.lemmas.Bool.{true≢false}
 use Rattle.hash_state.specs.Combine.{C}
 use Rattle.hash_state.specs.Writes.{Write}
-use Rattle.image.specs.Slot.{Slot, Slots, Entries, null, nothing, boolean, number, float, text, binary, view, refer, struct, sequence, entries, done, ◌⨾◌, none, entry}
+use Rattle.image.specs.Slot.{Slot, Slots, Entries, null, nothing, boolean, text, binary, refer, struct, sequence, entries, done, ◌⨾◌, none, entry}
 use Rattle.row_rule.specs.Laws.{StaysApart, combines}
 use Rattle.row_rule.specs.Number.{elements, is_null, number_of, pairs}
 use Rattle.row_rule.proofs.Below.{C_below}
@@ -50,22 +50,16 @@ module _ (ONE : List Write → ℕ) (SEED : ℕ → List Write → ℕ) where
   apart : (first : Bool) (s : Slot) (a b : ℕ) → a < 2 ^ 64 → b < 2 ^ 64 → combines first s ≡ true → number_of ONE SEED first a s ≡ number_of ONE SEED first b s → a ≡ b
   unfolding number_of
   apart first null a b ha hb c e = e
-  apart true nothing a b ha hb c e = no c
   apart false nothing a b ha hb c e = C_right _ a b ha hb e
-  apart true (boolean x) a b ha hb c e = no c
   apart false (boolean x) a b ha hb c e = C_right _ a b ha hb e
-  apart first (number w n) a b ha hb c e = no c
-  apart first (float w n) a b ha hb c e = no c
-  apart true (text x) a b ha hb c e = no c
   apart false (text x) a b ha hb c e = C_right _ a b ha hb e
-  apart true (binary x) a b ha hb c e = no c
   apart false (binary x) a b ha hb c e = C_right _ a b ha hb e
-  apart first (view x) a b ha hb c e = no c
   apart true (refer s) a b ha hb c e = refer_first (is_null s) _ _ a b c e
   apart false (refer s) a b ha hb c e = refer_later (is_null s) _ a b ha hb e
   apart first (struct ss) a b ha hb c e = C_left a b _ ha hb e
   apart first (sequence ss) a b ha hb c e = elements_apart ss a b ha hb e
   apart first (entries es) a b ha hb c e = pairs_apart es a b ha hb e
+  apart first s a b ha hb c e = no c
 
 pub stays_apart : StaysApart
 stays_apart ONE SEED first s a b ha hb c = (apart ONE SEED first s a b ha hb c, ap (λ (n : ℕ). number_of ONE SEED first n s))

@@ -18,17 +18,7 @@ view_writes bytes =
 -- whether a slot is marked null
 abbrev pub is_null : Slot → Bool
 is_null null = true
-is_null nothing = false
-is_null (boolean b) = false
-is_null (number w n) = false
-is_null (float w n) = false
-is_null (text bytes) = false
-is_null (binary bytes) = false
-is_null (view bytes) = false
-is_null (refer s) = false
-is_null (struct ss) = false
-is_null (sequence ss) = false
-is_null (entries es) = false
+is_null s = false
 
 -- a number v of its own: v itself when first, and combined with the entry when later
 abbrev pub combined : Bool → ℕ → ℕ → ℕ
