@@ -1,6 +1,6 @@
 // Columns of texts and of byte strings.
 ghost use Rattle.std.specs.Prelude.{◌≡◌, ◌+◌};
-ghost use Rattle.image.specs.Read.{offset, part, span};
+ghost use Rattle.image.specs.Read.{span_bytes};
 ghost use Rattle.image.specs.Seams.{SpanThere};
 ghost use Rattle.layout.specs.declared.data_type.DataType.TheVariants.{Utf8, Binary as binary_type, FixedSizeBinary};
 
@@ -14,7 +14,7 @@ use std::marker::PhantomData;
 // The bytes between a row's offset and the next, by offsets of one width.
 fn span_of<'a, T: Wide>(column: &Column<'a>, row: u32) -> &'a [u8]
     requires { SpanThere T.Native.width column.now.bytes.now column.now.record (column.now.record.start + row) }
-    ensures { result.now ≡ part column.now.bytes.now (column.now.record.b + offset T.Native.width column.now.bytes.now column.now.record (column.now.record.start + row)) (span T.Native.width column.now.bytes.now column.now.record (column.now.record.start + row)) }
+    ensures { result.now ≡ span_bytes T.Native.width column.now.bytes.now column.now.record (column.now.record.start + row) }
 {
     let data = column.record.b as usize;
     let at = column.element(row);
@@ -23,7 +23,7 @@ fn span_of<'a, T: Wide>(column: &Column<'a>, row: u32) -> &'a [u8]
     &column.bytes[place..end]
 }
 
-// Texts and byte strings are a reader each: one for both would ask for a trait with two laws, for two lines of code.
+// Texts, by offsets of one width.
 #[derive(Drop)]
 pub(crate) struct Texts<T>(pub PhantomData<T>);
 
@@ -38,6 +38,7 @@ impl<'a, T: Wide + Drop> Reader<'a> for Texts<T> {
     }
 }
 
+// Byte strings, by offsets of one width.
 #[derive(Drop)]
 pub(crate) struct Binaries<T>(pub PhantomData<T>);
 

@@ -1,8 +1,7 @@
 // The loop over entries, one for every kind of column.
 ghost use Rattle.std.specs.Prelude.{◌≡◌, ℕ, ◌+◌, ◌^◌, ◌<◌, length};
-ghost use Rattle.image.specs.Read.{typed_slot};
 ghost use Rattle.image.specs.Slot.{Slot};
-ghost use Rattle.leaves.specs.Rows.{LeafRow, RowsFor, by_place, row_of};
+ghost use Rattle.leaves.specs.Rows.{LeafRow, RowsFor, column_slot, leaf_words, row_of};
 ghost use Rattle.row_rule.specs.Number.{number_of};
 
 use crate::reader::Reader;
@@ -34,7 +33,7 @@ impl<'a, S: HashState> Hashing<'a, '_, S> {
         requires readable { (j : ℕ) → j < length entries.old → LeafRow self.column.bytes.now self.data_type self.column.record (row_of self.rows.lo self.rows.list j) }
         requires callable { (j : ℕ) → j < length entries.old → F.pre row_at j }
         requires rows { (j row : ℕ) → j < length entries.old → F.post row_at j row → row ≡ row_of self.rows.lo self.rows.list j }
-        ensures { (down : ℕ → ℕ → Slot) → entries.new ≡ by_place (λ j e. number_of (S.BuildHasher.one self.entry.state.now) (S.HashState.seeded self.entry.state.now) self.entry.first e (typed_slot self.entry.data_type self.entry.column.bytes.now self.entry.column.record down (row_of self.entry.rows.lo self.entry.rows.list j))) 0 entries.old }
+        ensures { let h = self.entry in (down : ℕ → ℕ → Slot) → entries.new ≡ leaf_words (number_of (S.BuildHasher.one h.state.now) (S.HashState.seeded h.state.now) h.first) (column_slot h.column h.data_type down) h.rows entries.old }
     {
         for (j, entry) in entries.iter_mut().enumerate() {
             let row = row_at(j);
@@ -57,7 +56,7 @@ impl<'a, S: HashState> Hashing<'a, '_, S> {
         requires readable { (j : ℕ) → j < length entries.old → LeafRow self.column.bytes.now self.data_type self.column.record (row_of self.rows.lo self.rows.list j) }
         requires listed { RowsFor self.rows.list (length entries.old) }
         requires fits { self.rows.lo + length entries.old < 2 ^ 32 }
-        ensures { (down : ℕ → ℕ → Slot) → entries.new ≡ by_place (λ j e. number_of (S.BuildHasher.one self.entry.state.now) (S.HashState.seeded self.entry.state.now) self.entry.first e (typed_slot self.entry.data_type self.entry.column.bytes.now self.entry.column.record down (row_of self.entry.rows.lo self.entry.rows.list j))) 0 entries.old }
+        ensures { let h = self.entry in (down : ℕ → ℕ → Slot) → entries.new ≡ leaf_words (number_of (S.BuildHasher.one h.state.now) (S.HashState.seeded h.state.now) h.first) (column_slot h.column h.data_type down) h.rows entries.old }
     {
         let lo = self.rows.lo;
         let Some(list) = self.rows.list else {

@@ -14,9 +14,11 @@ use std::marker::PhantomData;
 // Unsigned numbers of one width, as 64-bit numbers: what is read by the type asks no row for the width. An impl for each
 // width: the laws hold by computing, once the type is known.
 pub trait Wide: Native {
+    // The bytes of a number.
     fn width() -> usize
         ensures { result ≡ wide Self.Native.width };
 
+    // The number itself.
     fn number(self) -> u64
         ensures { result ≡ Self.Native.value self };
 }

@@ -1,11 +1,10 @@
 // How the rows of a column are read, by its type.
 ghost use Rattle.std.specs.Prelude.{◌≡◌, ℕ, ◌+◌, false, ◌&&◌};
-ghost use Rattle.image.specs.Read.{unmarked};
 ghost use Rattle.image.specs.Slot.{Slot};
 ghost use Rattle.layout.specs.Nodes.{marked, reads_nulls};
 ghost use Rattle.layout.specs.declared.data_type.DataType.{DataType};
 ghost use Rattle.layout.specs.declared.data_type.DataType.TheVariants.{Null, Boolean};
-ghost use Rattle.leaves.specs.Rows.{LeafRow};
+ghost use Rattle.leaves.specs.Rows.{LeafRow, unmarked_slot};
 ghost use Rattle.leaves.specs.Tells.{Tells};
 
 use hash_state::{HashValue, Nothing};
@@ -22,7 +21,7 @@ pub(crate) trait Reader<'a> {
     fn value(&self, column: &Column<'a>, row: u32) -> Self::Item
         requires there { LeafRow column.now.bytes.now (data_type self.now) column.now.record row }
         requires unmarked { (reads_nulls (data_type self.now) && marked column.now.bytes.now column.now.record row) ≡ false }
-        ensures { (down : ℕ → ℕ → Slot) → Tells Self.Item.HashValue.seeding (Self.Item.HashValue.writes result) (Self.Item.HashValue.seed_writes result) (unmarked (data_type self.now) column.now.bytes.now column.now.record down row (column.now.record.start + row)) };
+        ensures { (down : ℕ → ℕ → Slot) → Tells Self.Item.HashValue.seeding (Self.Item.HashValue.writes result) (Self.Item.HashValue.seed_writes result) (unmarked_slot column.now (data_type self.now) down row) };
 }
 
 #[derive(Drop)]

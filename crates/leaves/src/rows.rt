@@ -1,7 +1,7 @@
 // Which rows entries meet.
 
-// The rows that entries meet: those of a list, or without one those from `lo` on. Not an enum: a list of rows is an
-// `Option` that `let .. else` takes apart, by a rule of the project; with a list `lo` is not read.
+// The rows that entries meet in order: those that a list names, one for each entry, or without a list those from `lo` on.
+// With a list `lo` is not read.
 #[derive(Clone, Copy)]
 pub struct Rows<'a> {
     pub lo: u32,
