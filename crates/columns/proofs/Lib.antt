@@ -5,6 +5,7 @@ pub mod Meaning
 pub mod Needed
 pub mod Nodes
 pub mod Numbers
+pub mod Open
 pub mod Ranges
 pub mod Reaching
 pub mod Meeting

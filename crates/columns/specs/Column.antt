@@ -1,5 +1,5 @@
 -- A column as a call meets it: all rows of a node, or the rows of a list.
-use Rattle.std.specs.Prelude.{ℕ, ◌<◌, Bool, cond, List, ◌++◌, length, take, drop, Some, None, Option, nat_lt}
+use Rattle.std.specs.Prelude.{ℕ, ◌-◌, ◌^◌, ◌<◌, ◌≤◌, Bool, cond, List, ◌++◌, length, take, drop, Some, None, Option, nat_lt}
 use Rattle.std.specs.Borrow.{Bor}
 use Rattle.layout.specs.Records.{nodes, record_at}
 use Rattle.hash_state.specs.Writes.{Write}
@@ -7,6 +7,7 @@ use Rattle.image.specs.Read.{slot_at}
 use Rattle.row_rule.specs.Number.{number_of}
 use Rattle.leaves.specs.Rows.{by_place, row_of}
 use Rattle.columns.specs.Jobs.{need}
+use Rattle.columns.specs.declared.selection.Selection.{Selection}
 
 -- how many words meet a row, of a node of so many rows
 abbrev pub met_rows : ℕ → Option (Bor (List ℕ)) → ℕ
@@ -26,3 +27,11 @@ abbrev pub column_words : (List Write → ℕ) → (ℕ → List Write → ℕ) 
 column_words ONE SEED bytes node list first words =
     let n : ℕ = met_rows (record_at bytes node).rows list in
     by_place (λ j e. number_of ONE SEED first e (slot_at bytes node (row_of 0 list j))) 0 (take n words) ++ drop n words
+
+-- what a call over a column asks of a selection and of how many entries, words of work and claimed words there are: there is such a node; its rows are those that are met, each by an entry, and fewer than 2^32; and what is not claimed of the work has room for the node's need
+pub record Hashable (s : Selection) (words work claimed : ℕ) : Type 0 where
+  pub there : s.node < nodes s.image.now.bytes.now
+  pub rows : RowsThere (record_at s.image.now.bytes.now s.node).rows s.list
+  pub entries : met_rows (record_at s.image.now.bytes.now s.node).rows s.list ≤ words
+  pub few : met_rows (record_at s.image.now.bytes.now s.node).rows s.list < 2 ^ 32
+  pub room : need s.image.now.bytes.now s.node ≤ work - claimed

@@ -1,21 +1,21 @@
 // The number of every row of a column, in the caller's entries.
-ghost use Rattle.std.specs.Prelude.{◌≡◌, ℕ, ◌+◌, ◌-◌, ◌^◌, ◌<◌, ◌≤◌, length, take};
-ghost use Rattle.columns.specs.Column.{RowsThere, column_words, met_rows};
+ghost use Rattle.std.specs.Prelude.{◌≡◌, ℕ, ◌+◌, ◌<◌, ◌≤◌, length};
+ghost use Rattle.columns.specs.Column.{Hashable, column_words, met_rows};
 ghost use Rattle.columns.specs.Fold.{entry as entry_of, is_first, through};
 ghost use Rattle.columns.specs.Jobs.{Did, kids, need};
+ghost use Rattle.columns.specs.Open.{OthersStay, is_open};
 ghost use Rattle.image.specs.Read.{slot_at};
 ghost use Rattle.layout.specs.Nodes.{child, child_rows};
-ghost use Rattle.layout.specs.Records.{nodes, record_at};
 ghost use Rattle.leaves.specs.Rows.{by_place, row_of};
 ghost use Rattle.row_rule.specs.Number.{number_of};
 
 use crate::met::{Fold, Met};
 use crate::node::Node;
 use crate::region::Region;
+use crate::selection::Selection;
 use crate::span::Span;
 use crate::walk::{enter, walk};
 use hash_state::HashState;
-use image::place::Image;
 use leaves::Rows;
 
 // All children in turn, each over the same region at `at`.
@@ -42,7 +42,7 @@ fn hash_rows<S: HashState>(
     requires words { length entries.old ≡ met.n }
     requires room { at + need met.node.column.bytes.now met.node.number ≤ length work.old }
     ensures words { entries.new ≡ by_place (λ j e. number_of (S.BuildHasher.one state.now) (S.HashState.seeded state.now) met.entry.first e (slot_at met.entry.node.column.bytes.now met.entry.node.number (row_of met.entry.rows.lo met.entry.rows.list j))) 0 entries.old }
-    ensures below { take at work.new ≡ take at work.old }
+    ensures work { OthersStay (is_open at (length work.old)) work.old work.new }
 {
     let span = met.span();
     let reach = met.node.reach(span);
@@ -65,32 +65,30 @@ fn rows_met(list: Option<&[u32]>, rows: u32) -> usize
     list.len()
 }
 
-// The number of every row of a column: in the entries, one after the other from the front, from the words that were
-// there. The words of the work below `claimed` stay.
+// The number of every row that is met, each from the word that was in its entry: in the first entries, one after the other.
+// Entries behind them stay, and so do the first `claimed` words of the work. It asks that node and rows are there, that there
+// are entries and work enough, and refuses nothing.
 pub fn hash_column<S: HashState>(
-    image: &Image<'_>,
-    number: u32,
-    list: Option<&[u32]>,
+    selection: Selection<'_>,
     first: bool,
     state: &S,
     entries: &mut [u64],
     work: &mut [u64],
     claimed: usize,
 )
-    requires there { number < nodes image.now.bytes.now }
-    requires rows { RowsThere (record_at image.now.bytes.now number).rows list }
-    requires entries { met_rows (record_at image.now.bytes.now number).rows list ≤ length entries.old }
-    requires few { met_rows (record_at image.now.bytes.now number).rows list < 2 ^ 32 }
-    requires room { need image.now.bytes.now number ≤ length work.old - claimed }
-    ensures entries { entries.new ≡ column_words (S.BuildHasher.one state.now) (S.HashState.seeded state.now) image.now.bytes.now number list.entry first entries.old }
-    ensures work { take claimed work.new ≡ take claimed work.old }
+    requires { Hashable selection (length entries.old) (length work.old) claimed }
+    ensures entries { entries.new ≡ column_words (S.BuildHasher.one state.now) (S.HashState.seeded state.now) selection.entry.image.now.bytes.now selection.entry.node selection.entry.list first entries.old }
+    ensures work { OthersStay (is_open claimed (length work.old)) work.old work.new }
 {
-    let node = Node::of(image, number);
-    let rows = rows_met(list, node.column.record.rows);
+    let node = Node::of(selection.image, selection.node as u32);
+    let rows = rows_met(selection.list, node.column.record.rows);
     let at = claimed.min(work.len());
     let met = Met {
         node,
-        rows: Rows { lo: 0, list },
+        rows: Rows {
+            lo: 0,
+            list: selection.list,
+        },
         n: rows as u32,
         first,
     };

@@ -8,7 +8,8 @@ use Rattle.columns.specs.Jobs.{kids, row_by, standing}
 use Rattle.columns.proofs.Children.{node_number}
 use Rattle.columns.proofs.Nodes.{node_inside, node_room}
 use Rattle.columns.proofs.Meeting.{by_place_same}
-use Rattle.columns.proofs.Splices.{get_or-lent, take_same}
+use Rattle.columns.proofs.Open.{below_stay}
+use Rattle.columns.proofs.Splices.{get_or-lent}
 use Rattle.columns.proofs.column.hash_rows.Goals as goal
 
 pub hash_children-requires : goal.hash_children-requires
@@ -55,5 +56,5 @@ returns g c =
           get_or-lent at size w' x (omega (arith, c.reach-reach.ensures.size))
           ∙ did.rows x (omega (arith, c.reach-reach.ensures.size))
           ∙ ap (λ (from : ℕ). through (λ s z. number_of ONE SEED (is_first s) (entry s z) (slot_at n.column.bytes.now (child n.column.bytes.now n.column.record s) (from + x))) (kids n.t n.column.record) 0 (get_or w (at + x) 0)) c.reach-reach.ensures.from));
-      below = take_same at w' w did.same did.below;
+      work = below_stay at w w' did.same did.below;
     }
