@@ -11,8 +11,16 @@ mod shared;
 unsafe extern "C" {
     // The C library's: clock 3 is the processor time of a thread.
     fn clock_gettime(clock: i32, now: &mut [i64; 2]) -> i32;
-    fn rt_fnv_column(start: u64, bytes: *const u8, len: usize, node: u64, first: bool, times: u64, entries: *mut u64, rows: usize, work: *mut u64, words: usize) -> bool;
-    fn rt_sip_column(k0: u64, k1: u64, bytes: *const u8, len: usize, node: u64, first: bool, times: u64, entries: *mut u64, rows: usize, work: *mut u64, words: usize) -> bool;
+    fn rt_fnv_column(start: u64, bytes: *const u8, len: usize, timed: &Timed, entries: *mut u64, rows: usize, work: *mut u64, words: usize) -> bool;
+    fn rt_sip_column(k0: u64, k1: u64, bytes: *const u8, len: usize, timed: &Timed, entries: *mut u64, rows: usize, work: *mut u64, words: usize) -> bool;
+}
+
+/// What of an image is to be hashed: all rows of a node, as a first column or a later one, and how many times over.
+#[repr(C)]
+struct Timed {
+    node: u64,
+    first: bool,
+    times: u64,
 }
 
 const ROWS: usize = 1 << 20;
@@ -40,7 +48,7 @@ impl State for FnvState {
         Fnv(seed)
     }
     fn ours(&self, image: &[u8], first: bool, times: u64, entries: &mut [u64], work: &mut [u64]) -> bool {
-        unsafe { rt_fnv_column(self.0, image.as_ptr(), image.len(), 0, first, times, entries.as_mut_ptr(), entries.len(), work.as_mut_ptr(), work.len()) }
+        unsafe { rt_fnv_column(self.0, image.as_ptr(), image.len(), &Timed { node: 0, first, times }, entries.as_mut_ptr(), entries.len(), work.as_mut_ptr(), work.len()) }
     }
 }
 
@@ -58,7 +66,7 @@ impl State for SipState {
         SipHasher::new_with_keys(seed, self.1)
     }
     fn ours(&self, image: &[u8], first: bool, times: u64, entries: &mut [u64], work: &mut [u64]) -> bool {
-        unsafe { rt_sip_column(self.0, self.1, image.as_ptr(), image.len(), 0, first, times, entries.as_mut_ptr(), entries.len(), work.as_mut_ptr(), work.len()) }
+        unsafe { rt_sip_column(self.0, self.1, image.as_ptr(), image.len(), &Timed { node: 0, first, times }, entries.as_mut_ptr(), entries.len(), work.as_mut_ptr(), work.len()) }
     }
 }
 

@@ -5,6 +5,7 @@ use Rattle.admission.specs.FirstFault.{first_fault}
 use Rattle.hash_state.specs.Writes.{Write}
 use Rattle.columns.specs.Column.{column_words}
 use Rattle.columns.specs.Jobs.{need}
+use Rattle.bench_columns.specs.declared.Timed.{Timed}
 
 -- whether there is such a node, with no more rows than entries, and a need within the work
 abbrev pub fits : List ℕ → ℕ → ℕ → ℕ → Bool
@@ -20,6 +21,6 @@ repeated zero f words = words
 repeated (suc n) f words = f (repeated n f words)
 
 -- the entries after a node's column was hashed so many times, or as they were where it can't be
-abbrev pub timed_words : (List Write → ℕ) → (ℕ → List Write → ℕ) → List ℕ → ℕ → Bool → ℕ → List ℕ → ℕ → List ℕ
-timed_words ONE SEED bytes node first times entries work =
-    cond (can_hash bytes node (length entries) work) (repeated times (column_words ONE SEED bytes node None first) entries) entries
+abbrev pub timed_words : (List Write → ℕ) → (ℕ → List Write → ℕ) → List ℕ → Timed → List ℕ → ℕ → List ℕ
+timed_words ONE SEED bytes t entries work =
+    cond (can_hash bytes t.node (length entries) work) (repeated t.times (column_words ONE SEED bytes t.node None t.first) entries) entries

@@ -7,7 +7,7 @@ ghost use Rattle.layout.specs.Records.{nodes, record_at};
 use crate::line::{Line, Question, State};
 use crate::script::{End, Script, UNCLEARED, check_claimed, check_run};
 use anyhow::{Context, anyhow};
-use columns::{hash_column, node_need};
+use columns::{Selection, hash_column, node_need};
 use hash_state::{Fnv1aState, HashState};
 use image::place::Image;
 use std::alloc::Global;
@@ -247,10 +247,13 @@ fn check_numbers<S: HashState>(
     let mut entries = vec![in heap; 0; count + PAST]?;
     let mut work = vec![in heap; UNCLEARED; CLAIMED + need]?;
     count_up(entries.as_mut_slice(), question.entry);
-    hash_column(
+    let selection = Selection {
         image,
-        question.node as u32,
+        node: question.node,
         list,
+    };
+    hash_column(
+        selection,
         question.first,
         state,
         entries.as_mut_slice(),
