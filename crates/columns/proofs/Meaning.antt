@@ -1,10 +1,10 @@
 -- A job that is completed leaves the row rule's numbers in its words.
-use Rattle.std.proofs.Common.{◌≡◌, ℕ, zero, suc, ◌+◌, ◌-◌, ◌*◌, ◌<◌, ◌≤◌, Bool, true, false, cond, ◌&&◌, ◌==◌, eqb, List, length, get_or, replicate, refl, ap, ◌∙◌, subst, arith}
+use Rattle.std.proofs.Common.{◌≡◌, ℕ, zero, suc, ◌+◌, ◌-◌, ◌*◌, ◌<◌, ◌≤◌, Bool, true, false, cond, ◌&&◌, ◌==◌, eqb, List, length, get_or, replicate, refl, ap, ◌∙◌, subst, sym, true≢false, arith}
 use Rattle.std.proofs.lemmas.List.{get_or-replicate, length-replicate}
 use Rattle.layout.specs.declared.bytes.Width.TheVariants.{Four}
 use Rattle.layout.specs.declared.record.Record.{Record}
 use Rattle.layout.specs.declared.data_type.DataType.{DataType}
-use Rattle.layout.specs.declared.data_type.DataType.TheVariants.{Null, Boolean, Number, Float, Utf8, Binary, FixedSizeBinary, View, Dictionary, Struct, List as ListOf, ListView, Map, FixedSizeList, RunEnd}
+use Rattle.layout.specs.declared.data_type.DataType.TheVariants.{Dictionary, Struct, List as ListOf, ListView, Map, FixedSizeList, RunEnd}
 use Rattle.layout.specs.Nodes.{child, element, marked, reads_nulls}
 use Rattle.layout.specs.Records.{nodes, record_at}
 use Rattle.hash_state.specs.Combine.{C}
@@ -21,14 +21,6 @@ use Rattle.columns.proofs.Splices.{get_or-each, get_or-part, get_or-splice_below
 
 -- a statement holds of each child row that an element uses
 abbrev pub Uses : DataType → List ℕ → Record → ℕ → (ℕ → Type 0) → Type 0
-Uses Null bytes r at P = Unit {0}
-Uses Boolean bytes r at P = Unit {0}
-Uses (Number w) bytes r at P = Unit {0}
-Uses (Float w) bytes r at P = Unit {0}
-Uses (Utf8 w) bytes r at P = Unit {0}
-Uses (Binary w) bytes r at P = Unit {0}
-Uses (FixedSizeBinary p) bytes r at P = Unit {0}
-Uses View bytes r at P = Unit {0}
 Uses (Dictionary w signed) bytes r at P = P (element w bytes r.a at)
 Uses Struct bytes r at P = (r.cnt == 0) ≡ false → P at
 Uses (ListOf w) bytes r at P = (k : ℕ) → k < span w bytes r at → P (offset w bytes r at + k)
@@ -36,6 +28,7 @@ Uses (ListView w) bytes r at P = (k : ℕ) → k < element w bytes r.b at → P 
 Uses Map bytes r at P = (k : ℕ) → k < span Four bytes r at → P (offset Four bytes r at + k)
 Uses (FixedSizeList p) bytes r at P = (k : ℕ) → k < p → P (p * at + k)
 Uses (RunEnd w) bytes r at P = P (run_of w bytes r at)
+Uses t bytes r at P = Unit {0}
 
 did_splice : (at n : ℕ) (F : ℕ → ℕ → ℕ) (w ys : List ℕ) → at + n ≤ length w → length ys ≡ n → ((i : ℕ) → i < n → get_or ys i 0 ≡ F i (get_or w (at + i) 0)) → Did at n F w (splice at n w ys)
 did_splice at n F w ys le ly h =
@@ -84,14 +77,6 @@ all_same f g (suc count) e from same =
 
 module _ (bytes : List ℕ) (r : Record) (f g : ℕ → ℕ) (first : Bool) (e at : ℕ) where
   folded_same : (t : DataType) → Uses t bytes r at (λ q. f q ≡ g q) → folded t bytes r f first e at ≡ folded t bytes r g first e at
-  folded_same Null u = refl
-  folded_same Boolean u = refl
-  folded_same (Number w) u = refl
-  folded_same (Float w) u = refl
-  folded_same (Utf8 w) u = refl
-  folded_same (Binary w) u = refl
-  folded_same (FixedSizeBinary p) u = refl
-  folded_same View u = refl
   folded_same (Dictionary w signed) u = ap (λ (x : ℕ). cond (is_marked bytes (child bytes r 0) (element w bytes r.a at)) e (combined first e x)) u
   folded_same Struct u = ap (C e) (by_count (eqb r.cnt 0) u)
     where
@@ -103,38 +88,24 @@ module _ (bytes : List ℕ) (r : Record) (f g : ℕ → ℕ) (first : Bool) (e a
   folded_same Map u = all_same f g _ e _ u
   folded_same (FixedSizeList p) u = all_same f g p e (p * at) u
   folded_same (RunEnd w) u = ap (λ (x : ℕ). cond (is_marked bytes (child bytes r 0) (run_of w bytes r at)) e (combined first e x)) u
+  folded_same t u = refl
 
 -- a leaf's slot does not go down
 pub leaf_slot : (t : DataType) (bytes : List ℕ) (r : Record) (f g : ℕ → ℕ → Slot) (row : ℕ) → is_leaf t ≡ true → typed_slot t bytes r f row ≡ typed_slot t bytes r g row
 leaf_slot t bytes r f g row leaf = ap (cond (reads_nulls t && marked bytes r row) null) (same t leaf)
   where
     same : (t : DataType) → is_leaf t ≡ true → unmarked t bytes r f row (r.start + row) ≡ unmarked t bytes r g row (r.start + row)
-    same Null l = refl
-    same Boolean l = refl
-    same (Number w) l = refl
-    same (Float w) l = refl
-    same (Utf8 w) l = refl
-    same (Binary w) l = refl
-    same (FixedSizeBinary p) l = refl
-    same View l = refl
-    same (Dictionary w signed) l = let z : ◌≡◌ {A = ℕ} 0 1 = cc in absurd (omega arith)
-    same Struct l = let z : ◌≡◌ {A = ℕ} 0 1 = cc in absurd (omega arith)
-    same (ListOf w) l = let z : ◌≡◌ {A = ℕ} 0 1 = cc in absurd (omega arith)
-    same (ListView w) l = let z : ◌≡◌ {A = ℕ} 0 1 = cc in absurd (omega arith)
-    same Map l = let z : ◌≡◌ {A = ℕ} 0 1 = cc in absurd (omega arith)
-    same (FixedSizeList p) l = let z : ◌≡◌ {A = ℕ} 0 1 = cc in absurd (omega arith)
-    same (RunEnd w) l = let z : ◌≡◌ {A = ℕ} 0 1 = cc in absurd (omega arith)
+    same (Dictionary w signed) l = absurd (true≢false (sym l))
+    same Struct l = absurd (true≢false (sym l))
+    same (ListOf w) l = absurd (true≢false (sym l))
+    same (ListView w) l = absurd (true≢false (sym l))
+    same Map l = absurd (true≢false (sym l))
+    same (FixedSizeList p) l = absurd (true≢false (sym l))
+    same (RunEnd w) l = absurd (true≢false (sym l))
+    same t l = refl
 
 -- what holds of the child rows that an element uses may be weakened
 pub uses_weaker : (t : DataType) (bytes : List ℕ) (r : Record) (at : ℕ) (P Q : ℕ → Type 0) → ((q : ℕ) → P q → Q q) → Uses t bytes r at P → Uses t bytes r at Q
-uses_weaker Null bytes r at P Q h u = tt
-uses_weaker Boolean bytes r at P Q h u = tt
-uses_weaker (Number w) bytes r at P Q h u = tt
-uses_weaker (Float w) bytes r at P Q h u = tt
-uses_weaker (Utf8 w) bytes r at P Q h u = tt
-uses_weaker (Binary w) bytes r at P Q h u = tt
-uses_weaker (FixedSizeBinary p) bytes r at P Q h u = tt
-uses_weaker View bytes r at P Q h u = tt
 uses_weaker (Dictionary w signed) bytes r at P Q h u = h _ u
 uses_weaker Struct bytes r at P Q h u = λ e. h _ (u e)
 uses_weaker (ListOf w) bytes r at P Q h u = λ k l. h _ (u k l)
@@ -142,6 +113,7 @@ uses_weaker (ListView w) bytes r at P Q h u = λ k l. h _ (u k l)
 uses_weaker Map bytes r at P Q h u = λ k l. h _ (u k l)
 uses_weaker (FixedSizeList p) bytes r at P Q h u = λ k l. h _ (u k l)
 uses_weaker (RunEnd w) bytes r at P Q h u = h _ u
+uses_weaker t bytes r at P Q h u = tt
 
 -- the child rows that an unmarked row of a range uses are reached from the range
 abbrev pub Reached : List ℕ → Type 0

@@ -1,7 +1,7 @@
 -- What a node of a sound image lets the walk read.
 use Rattle.std.proofs.Common.{◌≡◌, ℕ, ◌+◌, ◌*◌, ◌<◌, ◌≤◌, true, false, ◌&&◌, List, length, Some, Option, sym, refl, ap, ◌∙◌, subst, ap₂, arith}
 use Rattle.layout.specs.declared.data_type.DataType.{DataType}
-use Rattle.layout.specs.declared.data_type.DataType.TheVariants.{Null, Boolean, Number, Float, Utf8, Binary, FixedSizeBinary, View, Dictionary, Struct, List as ListOf, ListView, Map, FixedSizeList, RunEnd}
+use Rattle.layout.specs.declared.data_type.DataType.TheVariants.{View, Dictionary, Struct, List as ListOf, ListView, Map, FixedSizeList, RunEnd}
 use Rattle.layout.specs.declared.bytes.Width.{Width}
 use Rattle.layout.specs.declared.record.Record.{Record}
 use Rattle.layout.specs.Nodes.{HoldsBit, child, child_rows, marked, reads_nulls, table, typed_mark}
@@ -125,13 +125,6 @@ module _ (n : Node) where
       (node_bit row h, readable (image_of n) n.number row n.column.record headed h n.t node_passed, padded n.t node_passed.padded)
     where
       padded : (t : DataType) → bad_views (image_of n) t n.column.record ≡ false → Padded t (image_of n) n.column.record row
-      padded Null e = tt
-      padded Boolean e = tt
-      padded (Number w) e = tt
-      padded (Float w) e = tt
-      padded (Utf8 w) e = tt
-      padded (Binary w) e = tt
-      padded (FixedSizeBinary p) e = tt
       padded View e = none_at n.column.record.rows (λ k. bad_view (image_of n) n.column.record k (view_place n.column.record k)) row e h
       padded (Dictionary w signed) e = tt
       padded Struct e = tt
@@ -140,3 +133,4 @@ module _ (n : Node) where
       padded Map e = tt
       padded (FixedSizeList p) e = tt
       padded (RunEnd w) e = tt
+      padded t e = tt

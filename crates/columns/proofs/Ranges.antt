@@ -5,7 +5,7 @@ use Rattle.layout.specs.declared.bytes.Width.{Width}
 use Rattle.layout.specs.declared.bytes.Width.TheVariants.{Four}
 use Rattle.layout.specs.declared.record.Record.{Record}
 use Rattle.layout.specs.declared.data_type.DataType.{DataType}
-use Rattle.layout.specs.declared.data_type.DataType.TheVariants.{Null, Boolean, Number, Float, Utf8, Binary, FixedSizeBinary, View, Dictionary, Struct, List as ListOf, ListView, Map, FixedSizeList, RunEnd}
+use Rattle.layout.specs.declared.data_type.DataType.TheVariants.{Dictionary, Struct, List as ListOf, ListView, Map, FixedSizeList, RunEnd}
 use Rattle.layout.specs.Bytes.{negative, wide}
 use Rattle.layout.specs.Nodes.{child_rows, element, marked, reads_nulls}
 use Rattle.layout.specs.Records.{elements}
@@ -46,14 +46,6 @@ module _ (bytes : List ℕ) (node : ℕ) (r : Record) (lo n : ℕ) (rows : lo + 
   counted k h e = ne_eqb r.cnt 0 (λ z. omega arith)
 
   pub reach_there : (t : DataType) → Passed bytes node t r → Linked bytes t r → (0 < kids t r → child_rows bytes r 0 ≤ 1048576) → ReachThere t bytes r lo n
-  reach_there Null p l small = tt
-  reach_there Boolean p l small = tt
-  reach_there (Number w) p l small = tt
-  reach_there (Float w) p l small = tt
-  reach_there (Utf8 w) p l small = tt
-  reach_there (Binary w) p l small = tt
-  reach_there (FixedSizeBinary z) p l small = tt
-  reach_there View p l small = tt
   reach_there (Dictionary w signed) p l small = (counted 1 (omega arith) (exactly (length bytes) 1 r p.tabled), l)
   reach_there Struct p l small = let few = short r p.short in omega (arith, few.0, few.1)
   reach_there (ListOf w) p l small =
@@ -88,6 +80,7 @@ module _ (bytes : List ℕ) (node : ℕ) (r : Record) (lo n : ℕ) (rows : lo + 
           (λ e. let some = nonzero n (eqb-false n 0 e) in run_rises w bytes r (r.start + lo) (r.start + lo + n - 1) (omega arith)),
         ),
       )
+  reach_there t p l small = tt
 
 module _ (bytes : List ℕ) (node : ℕ) (r : Record) (lo n row : ℕ) (rows : lo + n ≤ r.rows) (low : lo ≤ row) (high : row < lo + n) where
   -- an element of the rows can be read
@@ -108,14 +101,6 @@ module _ (bytes : List ℕ) (node : ℕ) (r : Record) (lo n row : ℕ) (rows : l
 
   pub fold_there : (t : DataType) → Passed bytes node t r → Linked bytes t r → (0 < kids t r → child_rows bytes r 0 ≤ 1048576) → (reads_nulls t && marked bytes r row) ≡ false
       → FoldThere t bytes r (r.start + row) (reach_from t bytes r lo) (region t bytes r lo n)
-  fold_there Null p l small m = tt
-  fold_there Boolean p l small m = tt
-  fold_there (Number w) p l small m = tt
-  fold_there (Float w) p l small m = tt
-  fold_there (Utf8 w) p l small m = tt
-  fold_there (Binary w) p l small m = tt
-  fold_there (FixedSizeBinary z) p l small m = tt
-  fold_there View p l small m = tt
   fold_there (Dictionary w signed) p l small m =
       let one = exactly (length bytes) 1 r p.tabled in
       let used = uses_reached bytes node r lo n row rows low high (Dictionary w signed) p m in
@@ -160,3 +145,4 @@ module _ (bytes : List ℕ) (node : ℕ) (r : Record) (lo n row : ℕ) (rows : l
       let used = uses_reached bytes node r lo n row rows low high (RunEnd w) p m in
       let here = reach_there bytes node r row 1 (omega arith) (RunEnd w) p l small in
       (here.1, run_there w bytes r (r.start + row) p.reached (omega arith), (used.0, omega (arith, used.1)))
+  fold_there t p l small m = tt

@@ -5,7 +5,7 @@ use Rattle.layout.specs.declared.bytes.Width.{Width}
 use Rattle.layout.specs.declared.bytes.Width.TheVariants.{Four}
 use Rattle.layout.specs.declared.record.Record.{Record}
 use Rattle.layout.specs.declared.data_type.DataType.{DataType}
-use Rattle.layout.specs.declared.data_type.DataType.TheVariants.{Null, Boolean, Number, Float, Utf8, Binary, FixedSizeBinary, View, Dictionary, Struct, List as ListOf, ListView, Map, FixedSizeList, RunEnd}
+use Rattle.layout.specs.declared.data_type.DataType.TheVariants.{Dictionary, Struct, List as ListOf, ListView, Map, FixedSizeList, RunEnd}
 use Rattle.layout.specs.Bytes.{negative}
 use Rattle.layout.specs.Nodes.{child_rows, element, marked, reads_nulls}
 use Rattle.layout.specs.Records.{elements}
@@ -109,14 +109,6 @@ module _ (bytes : List ℕ) (node : ℕ) (r : Record) (lo n : ℕ) (rows : lo + 
 
   -- the rows of a range reach no further than a child's rows
   pub reach_inside : (t : DataType) → Passed bytes node t r → (s : ℕ) → s < kids t r → reach_from t bytes r lo + region t bytes r lo n ≤ child_rows bytes r s
-  reach_inside Null p s h = absurd (omega arith)
-  reach_inside Boolean p s h = absurd (omega arith)
-  reach_inside (Number w) p s h = absurd (omega arith)
-  reach_inside (Float w) p s h = absurd (omega arith)
-  reach_inside (Utf8 w) p s h = absurd (omega arith)
-  reach_inside (Binary w) p s h = absurd (omega arith)
-  reach_inside (FixedSizeBinary z) p s h = absurd (omega arith)
-  reach_inside View p s h = absurd (omega arith)
   reach_inside (Dictionary w signed) p s h =
       let one = exactly (length bytes) 1 r p.tabled in
       let z : s ≡ 0 = omega arith in
@@ -162,6 +154,7 @@ module _ (bytes : List ℕ) (node : ℕ) (r : Record) (lo n : ℕ) (rows : lo + 
           let up = run_rises w bytes r (r.start + lo) (r.start + lo + n - 1) (omega arith) in
           let end = run_there w bytes r (r.start + lo + n - 1) p.reached (omega arith) in
           span_inside (RunEnd w) (child_rows bytes r 0) (omega arith) (omega arith) (omega arith)
+  reach_inside t p s h = absurd (omega arith)
 
 module _ (bytes : List ℕ) (node : ℕ) (r : Record) (lo n row : ℕ) (rows : lo + n ≤ r.rows) (low : lo ≤ row) (high : row < lo + n) where
   -- a child row is in the region of the range
@@ -184,14 +177,6 @@ module _ (bytes : List ℕ) (node : ℕ) (r : Record) (lo n row : ℕ) (rows : l
 
   -- the child rows that an unmarked row of a range uses are in the range's region
   pub uses_reached : (t : DataType) → Passed bytes node t r → (reads_nulls t && marked bytes r row) ≡ false → Uses t bytes r (r.start + row) (In t)
-  uses_reached Null p m = tt
-  uses_reached Boolean p m = tt
-  uses_reached (Number w) p m = tt
-  uses_reached (Float w) p m = tt
-  uses_reached (Utf8 w) p m = tt
-  uses_reached (Binary w) p m = tt
-  uses_reached (FixedSizeBinary z) p m = tt
-  uses_reached View p m = tt
   uses_reached (Dictionary w signed) p m =
       let one = exactly (length bytes) 1 r p.tabled in
       let key : ℕ = element w bytes r.a (r.start + row) in
@@ -226,6 +211,7 @@ module _ (bytes : List ℕ) (node : ℕ) (r : Record) (lo n row : ℕ) (rows : l
       let a = run_rises w bytes r (r.start + lo) (r.start + row) (omega arith) in
       let b = run_rises w bytes r (r.start + row) (r.start + lo + n - 1) (omega arith) in
       between (RunEnd w) (run_of w bytes r (r.start + row)) (omega arith) (omega arith) (omega arith)
+  uses_reached t p m = tt
 
 -- the first that passes, where none before it does
 pub first_is : (n : ℕ) (test : ℕ → Bool) (k : ℕ) → k ≤ n → ((i : ℕ) → i < k → test i ≡ false) → (k < n → test k ≡ true) → first_below n test ≡ k

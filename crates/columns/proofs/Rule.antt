@@ -5,7 +5,7 @@ use Rattle.std.specs.List.{range_with_len}
 use Rattle.layout.specs.declared.bytes.Width.TheVariants.{Four}
 use Rattle.layout.specs.declared.record.Record.{Record}
 use Rattle.layout.specs.declared.data_type.DataType.{DataType}
-use Rattle.layout.specs.declared.data_type.DataType.TheVariants.{Null, Boolean, Number, Float, Utf8, Binary, FixedSizeBinary, View, Dictionary, Struct, List as ListOf, ListView, Map, FixedSizeList, RunEnd}
+use Rattle.layout.specs.declared.data_type.DataType.TheVariants.{Null, Dictionary, Struct, List as ListOf, ListView, Map, FixedSizeList, RunEnd}
 use Rattle.layout.specs.Nodes.{child, element, listed, marked, reads_nulls, table, typed_mark}
 use Rattle.layout.specs.Records.{record_at}
 use Rattle.layout.specs.Types.{data_type}
@@ -62,20 +62,7 @@ module _ (ONE : List Write → ℕ) (SEED : ℕ → List Write → ℕ) where
 -- an unmarked slot is none that is marked null
 unmarked_there : (t : DataType) (bytes : List ℕ) (r : Record) (down : ℕ → ℕ → Slot) (row at : ℕ) → is_null (unmarked t bytes r down row at) ≡ false
 unmarked_there Null bytes r down row at = refl
-unmarked_there Boolean bytes r down row at = refl
-unmarked_there (Number w) bytes r down row at = refl
-unmarked_there (Float w) bytes r down row at = refl
-unmarked_there (Utf8 w) bytes r down row at = refl
-unmarked_there (Binary w) bytes r down row at = refl
-unmarked_there (FixedSizeBinary p) bytes r down row at = refl
-unmarked_there View bytes r down row at = refl
-unmarked_there (Dictionary w signed) bytes r down row at = refl
-unmarked_there Struct bytes r down row at = refl
-unmarked_there (ListOf w) bytes r down row at = refl
-unmarked_there (ListView w) bytes r down row at = refl
-unmarked_there Map bytes r down row at = refl
-unmarked_there (FixedSizeList p) bytes r down row at = refl
-unmarked_there (RunEnd w) bytes r down row at = refl
+unmarked_there t bytes r down row at = refl
 
 null_cond : (b : Bool) (s : Slot) → is_null s ≡ false → is_null (cond b null s) ≡ b
 null_cond true s e = refl
@@ -91,14 +78,6 @@ marked_slot levels bytes node row t typed =
 
 -- a node with children: its children are there
 abbrev pub Counted : DataType → ℕ → Type 0
-Counted Null n = ⊥
-Counted Boolean n = ⊥
-Counted (Number w) n = ⊥
-Counted (Float w) n = ⊥
-Counted (Utf8 w) n = ⊥
-Counted (Binary w) n = ⊥
-Counted (FixedSizeBinary p) n = ⊥
-Counted View n = ⊥
 Counted (Dictionary w signed) n = n ≡ 1
 Counted Struct n = Unit {0}
 Counted (ListOf w) n = n ≡ 1
@@ -106,6 +85,7 @@ Counted (ListView w) n = n ≡ 1
 Counted Map n = n ≡ 2
 Counted (FixedSizeList p) n = n ≡ 1
 Counted (RunEnd w) n = n ≡ 1
+Counted t n = ⊥
 
 module _ (ONE : List Write → ℕ) (SEED : ℕ → List Write → ℕ) (bytes : List ℕ) (r : Record) (down : ℕ → ℕ → Slot) where
   value : DataType → ℕ → ℕ
@@ -139,14 +119,6 @@ module _ (ONE : List Write → ℕ) (SEED : ℕ → List Write → ℕ) (bytes :
       → ((q : ℕ) → 0 < listed (table t) r.cnt → is_null (down (child bytes r 0) q) ≡ is_marked bytes (child bytes r 0) q)
       → number_of ONE SEED first e (unmarked t bytes r down row at) ≡ folded t bytes r (value t) first e at
   unfolding number_of value
-  unmarked_rule Null first e row at n mark = absurd n
-  unmarked_rule Boolean first e row at n mark = absurd n
-  unmarked_rule (Number w) first e row at n mark = absurd n
-  unmarked_rule (Float w) first e row at n mark = absurd n
-  unmarked_rule (Utf8 w) first e row at n mark = absurd n
-  unmarked_rule (Binary w) first e row at n mark = absurd n
-  unmarked_rule (FixedSizeBinary p) first e row at n mark = absurd n
-  unmarked_rule View first e row at n mark = absurd n
   unmarked_rule (Dictionary w signed) first e row at n mark = refer_rule (Dictionary w signed) first e (element w bytes r.a at) n (mark _ (omega arith))
   unmarked_rule Struct first e row at n mark = ap (C e) (fields_all ONE SEED (λ k. down (child bytes r k) at) r.cnt ∙ sym (through_none ONE SEED _ r.cnt))
   unmarked_rule (ListOf w) first e row at n mark = sequence_rule (ListOf w) (offset w bytes r at) (span w bytes r at) e n
@@ -157,6 +129,7 @@ module _ (ONE : List Write → ℕ) (SEED : ℕ → List Write → ℕ) (bytes :
       (λ q. sym (through_two ONE SEED (λ s x. number_of ONE SEED (is_first s) (entry s x) (down (child bytes r s) q)) r.cnt n))
   unmarked_rule (FixedSizeList p) first e row at n mark = sequence_rule (FixedSizeList p) (p * at) p e n
   unmarked_rule (RunEnd w) first e row at n mark = refer_rule (RunEnd w) first e (run_of w bytes r at) n (mark _ (omega arith))
+  unmarked_rule t first e row at n mark = absurd n
 
   -- and of any row
   pub row_rule : (t : DataType) (first : Bool) (e row : ℕ) → Counted t r.cnt

@@ -3,7 +3,7 @@ use Rattle.std.proofs.Common.{◌≡◌, ℕ, ◌*◌, ◌<◌, true, false, ◌
 use Rattle.std.proofs.lemmas.Bool.{ltb-false, or_parts}
 use Rattle.layout.specs.declared.record.Record.{Record}
 use Rattle.layout.specs.declared.data_type.DataType.{DataType}
-use Rattle.layout.specs.declared.data_type.DataType.TheVariants.{Null, Boolean, Number, Float, Utf8, Binary, FixedSizeBinary, View, Dictionary, Struct, List as ListOf, ListView, Map, FixedSizeList, RunEnd}
+use Rattle.layout.specs.declared.data_type.DataType.TheVariants.{Null, Dictionary, Struct, List as ListOf, ListView, Map, FixedSizeList, RunEnd}
 use Rattle.layout.specs.declared.data_type.Table.TheVariants.{Children}
 use Rattle.layout.specs.Nodes.{table}
 use Rattle.layout.specs.Records.{nodes, record_at}
@@ -37,14 +37,6 @@ no : {A : Type 0} → true ≡ false → A
 no e = let z : ◌≡◌ {A = ℕ} 0 1 = cc in absurd (omega arith)
 
 pub counted : (len : ℕ) (t : DataType) (r : Record) → is_leaf t ≡ false → bad_table len (table t) r ≡ false → Counted t r.cnt
-counted len Null r l e = no l
-counted len Boolean r l e = no l
-counted len (Number w) r l e = no l
-counted len (Float w) r l e = no l
-counted len (Utf8 w) r l e = no l
-counted len (Binary w) r l e = no l
-counted len (FixedSizeBinary p) r l e = no l
-counted len View r l e = no l
 counted len (Dictionary w signed) r l e = exactly len 1 r e
 counted len Struct r l e = tt
 counted len (ListOf w) r l e = exactly len 1 r e
@@ -52,3 +44,4 @@ counted len (ListView w) r l e = exactly len 1 r e
 counted len Map r l e = exactly len 2 r e
 counted len (FixedSizeList p) r l e = exactly len 1 r e
 counted len (RunEnd w) r l e = exactly len 1 r e
+counted len t r l e = no l

@@ -3,7 +3,7 @@ use Rattle.std.specs.Prelude.{ℕ, zero, suc, ◌+◌, ◌*◌, Bool, true, fals
 use Rattle.layout.specs.declared.bytes.Width.TheVariants.{Four}
 use Rattle.layout.specs.declared.record.Record.{Record}
 use Rattle.layout.specs.declared.data_type.DataType.{DataType}
-use Rattle.layout.specs.declared.data_type.DataType.TheVariants.{Null, Boolean, Number, Float, Utf8, Binary, FixedSizeBinary, View, Dictionary, Struct, List as ListOf, ListView, Map, FixedSizeList, RunEnd}
+use Rattle.layout.specs.declared.data_type.DataType.TheVariants.{Dictionary, Struct, List as ListOf, ListView, Map, FixedSizeList, RunEnd}
 use Rattle.layout.specs.Nodes.{child, element, marked, reads_nulls, typed_mark}
 use Rattle.layout.specs.Records.{record_at}
 use Rattle.layout.specs.Types.{data_type}
@@ -26,14 +26,6 @@ referred bytes r v first e q = cond (is_marked bytes (child bytes r 0) q) e (com
 
 -- the number of an unmarked row, where v gives the numbers of child rows
 abbrev pub folded : DataType → List ℕ → Record → (ℕ → ℕ) → Bool → ℕ → ℕ → ℕ
-folded Null bytes r v first e at = e
-folded Boolean bytes r v first e at = e
-folded (Number w) bytes r v first e at = e
-folded (Float w) bytes r v first e at = e
-folded (Utf8 w) bytes r v first e at = e
-folded (Binary w) bytes r v first e at = e
-folded (FixedSizeBinary p) bytes r v first e at = e
-folded View bytes r v first e at = e
 folded (Dictionary w signed) bytes r v first e at = referred bytes r v first e (element w bytes r.a at)
 folded Struct bytes r v first e at = C e (cond (r.cnt == 0) 0 (v at))
 folded (ListOf w) bytes r v first e at = combined_all v e (offset w bytes r at) (span w bytes r at)
@@ -41,6 +33,7 @@ folded (ListView w) bytes r v first e at = combined_all v e (element w bytes r.a
 folded Map bytes r v first e at = combined_all v e (offset Four bytes r at) (span Four bytes r at)
 folded (FixedSizeList p) bytes r v first e at = combined_all v e (p * at) p
 folded (RunEnd w) bytes r v first e at = referred bytes r v first e (run_of w bytes r at)
+folded t bytes r v first e at = e
 
 -- the number of a row: its entry where it is marked null
 abbrev pub row_number : DataType → List ℕ → Record → (ℕ → ℕ) → Bool → ℕ → ℕ → ℕ

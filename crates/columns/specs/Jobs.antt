@@ -1,10 +1,11 @@
 -- The walk over a node's rows as jobs: a range of a node's rows, hashed into words of the work.
 use Rattle.std.specs.Prelude.{◌≡◌, ℕ, zero, suc, ◌+◌, ◌-◌, ◌*◌, ◌<◌, ◌≤◌, max, Bool, false, cond, List, ◌++◌, map, length, take, drop, replicate, Some, None, ◌==◌, slice_index, Option}
 use Rattle.std.specs.List.{range_with_len}
+use Rattle.layout.specs.declared.bytes.Width.{Width}
 use Rattle.layout.specs.declared.bytes.Width.TheVariants.{Four}
 use Rattle.layout.specs.declared.record.Record.{Record}
 use Rattle.layout.specs.declared.data_type.DataType.{DataType}
-use Rattle.layout.specs.declared.data_type.DataType.TheVariants.{Null, Boolean, Number, Float, Utf8, Binary, FixedSizeBinary, View, Dictionary, Struct, List as ListOf, ListView, Map, FixedSizeList, RunEnd}
+use Rattle.layout.specs.declared.data_type.DataType.TheVariants.{Null, Dictionary, Struct, List as ListOf, ListView, Map, FixedSizeList, RunEnd}
 use Rattle.layout.specs.Nodes.{child, child_count, child_rows, listed, table}
 use Rattle.layout.specs.Records.{nodes, record_at}
 use Rattle.layout.specs.Types.{data_type}
@@ -36,14 +37,6 @@ need bytes node = need_within 16 bytes node
 
 -- the first of the child rows that rows from `lo` on reach
 abbrev pub reach_from : DataType → List ℕ → Record → ℕ → ℕ
-reach_from Null bytes r lo = 0
-reach_from Boolean bytes r lo = 0
-reach_from (Number w) bytes r lo = 0
-reach_from (Float w) bytes r lo = 0
-reach_from (Utf8 w) bytes r lo = 0
-reach_from (Binary w) bytes r lo = 0
-reach_from (FixedSizeBinary p) bytes r lo = 0
-reach_from View bytes r lo = 0
 reach_from (Dictionary w signed) bytes r lo = 0
 reach_from Struct bytes r lo = r.start + lo
 reach_from (ListOf w) bytes r lo = offset w bytes r (r.start + lo)
@@ -51,24 +44,22 @@ reach_from (ListView w) bytes r lo = 0
 reach_from Map bytes r lo = offset Four bytes r (r.start + lo)
 reach_from (FixedSizeList p) bytes r lo = p * (r.start + lo)
 reach_from (RunEnd w) bytes r lo = run_of w bytes r (r.start + lo)
+reach_from t bytes r lo = 0
+
+-- the run behind the last that covers one of n elements from one on; without elements, the run of the first
+abbrev pub run_till : Width → List ℕ → Record → ℕ → ℕ → ℕ
+run_till w bytes r at n = cond (n == 0) (run_of w bytes r at) (run_of w bytes r (at + n - 1) + 1)
 
 -- the child row behind the last that the n rows from `lo` on reach
 abbrev pub reach_till : DataType → List ℕ → Record → ℕ → ℕ → ℕ
-reach_till Null bytes r lo n = 0
-reach_till Boolean bytes r lo n = 0
-reach_till (Number w) bytes r lo n = 0
-reach_till (Float w) bytes r lo n = 0
-reach_till (Utf8 w) bytes r lo n = 0
-reach_till (Binary w) bytes r lo n = 0
-reach_till (FixedSizeBinary p) bytes r lo n = 0
-reach_till View bytes r lo n = 0
 reach_till (Dictionary w signed) bytes r lo n = child_rows bytes r 0
 reach_till Struct bytes r lo n = r.start + lo + n
 reach_till (ListOf w) bytes r lo n = offset w bytes r (r.start + lo + n)
 reach_till (ListView w) bytes r lo n = child_rows bytes r 0
 reach_till Map bytes r lo n = offset Four bytes r (r.start + lo + n)
 reach_till (FixedSizeList p) bytes r lo n = p * (r.start + lo + n)
-reach_till (RunEnd w) bytes r lo n = cond (n == 0) (run_of w bytes r (r.start + lo)) (run_of w bytes r (r.start + lo + n - 1) + 1)
+reach_till (RunEnd w) bytes r lo n = run_till w bytes r (r.start + lo) n
+reach_till t bytes r lo n = 0
 
 -- a type, Null where there is none
 abbrev pub or_null : Option DataType → DataType

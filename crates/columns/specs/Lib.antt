@@ -4,3 +4,5 @@ pub mod Machine
 pub mod Seams
 pub mod Column
 pub mod Open
+pub mod Region
+pub mod Words

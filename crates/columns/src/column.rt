@@ -1,13 +1,10 @@
 // The number of every row of a column, in the caller's entries.
-ghost use Rattle.std.specs.Prelude.{◌≡◌, ℕ, ◌+◌, ◌<◌, ◌≤◌, length};
+ghost use Rattle.std.specs.Prelude.{◌≡◌, ◌+◌, ◌≤◌, length};
 ghost use Rattle.columns.specs.Column.{Hashable, column_words, met_rows};
-ghost use Rattle.columns.specs.Fold.{entry as entry_of, is_first, through};
 ghost use Rattle.columns.specs.Jobs.{Did, kids, need};
 ghost use Rattle.columns.specs.Open.{OthersStay, is_open};
-ghost use Rattle.image.specs.Read.{slot_at};
-ghost use Rattle.layout.specs.Nodes.{child, child_rows};
-ghost use Rattle.leaves.specs.Rows.{by_place, row_of};
-ghost use Rattle.row_rule.specs.Number.{number_of};
+ghost use Rattle.columns.specs.Seams.{ChildrenFit};
+ghost use Rattle.columns.specs.Words.{met_words, through_children};
 
 use crate::met::{Fold, Met};
 use crate::node::Node;
@@ -20,9 +17,8 @@ use leaves::Rows;
 
 // All children in turn, each over the same region at `at`.
 fn hash_children<S: HashState>(node: &Node<'_>, rows: Span, at: usize, state: &S, work: &mut [u64])
-    requires rows { (s : ℕ) → s < kids node.now.t node.now.column.record → rows.from + rows.size ≤ child_rows node.now.column.bytes.now node.now.column.record s }
-    requires room { (s : ℕ) → s < kids node.now.t node.now.column.record → at + rows.size + need node.now.column.bytes.now (child node.now.column.bytes.now node.now.column.record s) ≤ length work.old }
-    ensures { Did at rows.size (λ i x. through (λ s y. number_of (S.BuildHasher.one state.now) (S.HashState.seeded state.now) (is_first s) (entry_of s y) (slot_at node.now.column.bytes.now (child node.now.column.bytes.now node.now.column.record s) (rows.from + i))) (kids node.now.t node.now.column.record) 0 x) work.old work.new }
+    requires { ChildrenFit node.now rows.from rows.size at (length work.old) }
+    ensures { Did at rows.size (λ i x. through_children (S.BuildHasher.one state.now) (S.HashState.seeded state.now) node.now (kids node.now.t node.now.column.record) (rows.from + i) x) work.old work.new }
 {
     for stage in 0..node.kids() {
         let job = enter(node, stage, rows, at, work);
@@ -41,7 +37,7 @@ fn hash_rows<S: HashState>(
 )
     requires words { length entries.old ≡ met.n }
     requires room { at + need met.node.column.bytes.now met.node.number ≤ length work.old }
-    ensures words { entries.new ≡ by_place (λ j e. number_of (S.BuildHasher.one state.now) (S.HashState.seeded state.now) met.entry.first e (slot_at met.entry.node.column.bytes.now met.entry.node.number (row_of met.entry.rows.lo met.entry.rows.list j))) 0 entries.old }
+    ensures words { entries.new ≡ met_words (S.BuildHasher.one state.now) (S.HashState.seeded state.now) met.entry entries.old }
     ensures work { OthersStay (is_open at (length work.old)) work.old work.new }
 {
     let span = met.span();

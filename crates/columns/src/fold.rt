@@ -2,28 +2,27 @@
 // its name, for one element that is not marked null. What each takes differs, so the parameters go on one by one.
 ghost use Rattle.std.specs.Prelude.{◌≡◌, ◌+◌, ◌*◌, ◌^◌, ◌<◌, false, cond, length, if◌then◌else◌, ◌==◌, nat_eq};
 ghost use Rattle.admission.specs.Seams.{ElementThere};
-ghost use Rattle.columns.specs.Fold.{combined_all, referred};
-ghost use Rattle.columns.specs.Jobs.{kids, standing};
-ghost use Rattle.columns.specs.Seams.{OffsetsThere, Within};
+ghost use Rattle.columns.specs.Jobs.{kids};
+ghost use Rattle.columns.specs.Region.{ChildRow, Holds, combined_in, key_of, number_in, referred_in};
+ghost use Rattle.columns.specs.Seams.{OffsetsThere};
 ghost use Rattle.hash_state.specs.Combine.{C};
 ghost use Rattle.image.specs.Read.{offset, run_of, span};
 ghost use Rattle.layout.specs.Nodes.{child, child_rows, element};
 ghost use Rattle.layout.specs.declared.bytes.Width.TheVariants.{Four};
 ghost use Rattle.row_rule.specs.Number.{combined};
 
+use crate::nested::RunArray;
 use crate::node::Node;
 use crate::region::Region;
-use crate::runs::Runs;
 use hash_state::combine_hashes;
 use layout::bytes::{Width, element_at};
 use layout::column::Column;
 use leaves::{Wide, element_of};
-use std::cell::Cell;
 
 // The number that the fields came to, 0 without fields.
 pub(crate) fn hash_struct_array(column: &Column<'_>, at: usize, region: Region<'_>, e: u64) -> u64
-    requires { (column.now.record.cnt == 0) ≡ false → Within region.from (length region.numbers.now) at 1 }
-    ensures { result ≡ C e (if nat_eq column.now.record.cnt 0 then 0 else standing region.entry.numbers.now region.entry.from at) }
+    requires { (column.now.record.cnt == 0) ≡ false → Holds region at 1 }
+    ensures { result ≡ C e (if nat_eq column.now.record.cnt 0 then 0 else number_in region.entry at) }
 {
     if column.record.cnt == 0 {
         return combine_hashes(e, 0);
@@ -39,9 +38,9 @@ pub(crate) fn hash_list_array<O: Wide>(
     e: u64,
 ) -> u64
     requires there { OffsetsThere O.Native.width column.now.bytes.now column.now.record at 1 }
-    requires reached { Within region.from (length region.numbers.now) (offset O.Native.width column.now.bytes.now column.now.record at) (span O.Native.width column.now.bytes.now column.now.record at) }
+    requires reached { Holds region (offset O.Native.width column.now.bytes.now column.now.record at) (span O.Native.width column.now.bytes.now column.now.record at) }
     requires small { at < 2 ^ 32 }
-    ensures { result ≡ combined_all (standing region.entry.numbers.now region.entry.from) e (offset O.Native.width column.now.bytes.now column.now.record at) (span O.Native.width column.now.bytes.now column.now.record at) }
+    ensures { result ≡ combined_in region.entry e (offset O.Native.width column.now.bytes.now column.now.record at) (span O.Native.width column.now.bytes.now column.now.record at) }
 {
     let start = element_of::<O>(column, at);
     let end = element_of::<O>(column, at + 1);
@@ -51,9 +50,9 @@ pub(crate) fn hash_list_array<O: Wide>(
 // The same over entries of keys with values; a map's offsets have 4 bytes.
 pub(crate) fn hash_map_array(column: &Column<'_>, at: usize, region: Region<'_>, e: u64) -> u64
     requires there { OffsetsThere Four column.now.bytes.now column.now.record at 1 }
-    requires reached { Within region.from (length region.numbers.now) (offset Four column.now.bytes.now column.now.record at) (span Four column.now.bytes.now column.now.record at) }
+    requires reached { Holds region (offset Four column.now.bytes.now column.now.record at) (span Four column.now.bytes.now column.now.record at) }
     requires small { at < 2 ^ 32 }
-    ensures { result ≡ combined_all (standing region.entry.numbers.now region.entry.from) e (offset Four column.now.bytes.now column.now.record at) (span Four column.now.bytes.now column.now.record at) }
+    ensures { result ≡ combined_in region.entry e (offset Four column.now.bytes.now column.now.record at) (span Four column.now.bytes.now column.now.record at) }
 {
     hash_list_array::<u32>(column, at, region, e)
 }
@@ -67,8 +66,8 @@ pub(crate) fn hash_list_view_array(
     e: u64,
 ) -> u64
     requires there { (ElementThere width column.now.bytes.now column.now.record.a at) × (ElementThere width column.now.bytes.now column.now.record.b at) }
-    requires reached { Within region.from (length region.numbers.now) (element width column.now.bytes.now column.now.record.a at) (element width column.now.bytes.now column.now.record.b at) }
-    ensures { result ≡ combined_all (standing region.entry.numbers.now region.entry.from) e (element width column.now.bytes.now column.now.record.a at) (element width column.now.bytes.now column.now.record.b at) }
+    requires reached { Holds region (element width column.now.bytes.now column.now.record.a at) (element width column.now.bytes.now column.now.record.b at) }
+    ensures { result ≡ combined_in region.entry e (element width column.now.bytes.now column.now.record.a at) (element width column.now.bytes.now column.now.record.b at) }
 {
     let start = column.number(width, at);
     // sizes are in the buffer at B, which no other kind reads as numbers
@@ -78,9 +77,9 @@ pub(crate) fn hash_list_view_array(
 
 // The element's share of the child rows.
 pub(crate) fn hash_fixed_list_array(size: u32, at: usize, region: Region<'_>, e: u64) -> u64
-    requires reached { Within region.from (length region.numbers.now) (size * at) size }
+    requires reached { Holds region (size * at) size }
     requires small { size * at + size < 2 ^ 32 }
-    ensures { result ≡ combined_all (standing region.entry.numbers.now region.entry.from) e (size * at) size }
+    ensures { result ≡ combined_in region.entry e (size * at) size }
 {
     region.combine(size as u64 * at as u64, size as u64, e)
 }
@@ -121,8 +120,8 @@ impl<'a> References<'a> {
     // The number of a row that refers to a child row.
     fn refer_to(&self, row: u32, region: Region<'_>, first: bool, e: u64) -> u64
         requires row { row < child_rows self.now.column.bytes.now self.now.column.record 0 }
-        requires reached { Within region.from (length region.numbers.now) row 1 }
-        ensures { result ≡ referred self.now.column.bytes.now self.now.column.record (standing region.entry.numbers.now region.entry.from) first e row }
+        requires reached { Holds region row 1 }
+        ensures { result ≡ referred_in self.now.column region.entry first e row }
     {
         let number = region.number(row as usize);
         refer(self.values.is_marked(row), number, first, e)
@@ -138,9 +137,9 @@ pub(crate) fn hash_dictionary<K: Wide>(
     e: u64,
 ) -> u64
     requires there { ElementThere K.Native.width rows.now.column.bytes.now rows.now.column.record.a at }
-    requires key { (element K.Native.width rows.now.column.bytes.now rows.now.column.record.a at < child_rows rows.now.column.bytes.now rows.now.column.record 0) × (child_rows rows.now.column.bytes.now rows.now.column.record 0 < 2 ^ 32) }
-    requires reached { Within region.from (length region.numbers.now) (element K.Native.width rows.now.column.bytes.now rows.now.column.record.a at) 1 }
-    ensures { result ≡ referred rows.now.column.bytes.now rows.now.column.record (standing region.entry.numbers.now region.entry.from) first e (element K.Native.width rows.now.column.bytes.now rows.now.column.record.a at) }
+    requires key { ChildRow rows.now.column (key_of K.Native.width rows.now.column at) }
+    requires reached { Holds region (key_of K.Native.width rows.now.column at) 1 }
+    ensures { result ≡ referred_in rows.now.column region.entry first e (key_of K.Native.width rows.now.column at) }
 {
     let key = element_of::<K>(&rows.column, at);
     rows.refer_to(key as u32, region, first, e)
@@ -148,20 +147,17 @@ pub(crate) fn hash_dictionary<K: Wide>(
 
 // The run that covers the element; it is looked for first where the row before had its own.
 pub(crate) fn hash_run_array(
-    rows: &References<'_>,
-    runs: &Runs<'_>,
-    before: &Cell<u32>,
+    array: &RunArray<'_>,
     at: usize,
     region: Region<'_>,
     first: bool,
     e: u64,
 ) -> u64
-    requires same { runs.now.column ≡ rows.now.column }
-    requires run { run_of runs.now.width rows.now.column.bytes.now rows.now.column.record at < child_rows rows.now.column.bytes.now rows.now.column.record 0 }
-    requires reached { Within region.from (length region.numbers.now) (run_of runs.now.width rows.now.column.bytes.now rows.now.column.record at) 1 }
-    ensures { result ≡ referred rows.now.column.bytes.now rows.now.column.record (standing region.entry.numbers.now region.entry.from) first e (run_of runs.now.width rows.now.column.bytes.now rows.now.column.record at) }
+    requires run { run_of array.now.runs.width array.now.rows.column.bytes.now array.now.rows.column.record at < child_rows array.now.rows.column.bytes.now array.now.rows.column.record 0 }
+    requires reached { Holds region (run_of array.now.runs.width array.now.rows.column.bytes.now array.now.rows.column.record at) 1 }
+    ensures { result ≡ referred_in array.now.rows.column region.entry first e (run_of array.now.runs.width array.now.rows.column.bytes.now array.now.rows.column.record at) }
 {
-    let run = runs.near(at as u64, before.get());
-    before.set(run);
-    rows.refer_to(run, region, first, e)
+    let run = array.runs.near(at as u64, array.before.get());
+    array.before.set(run);
+    array.rows.refer_to(run, region, first, e)
 }

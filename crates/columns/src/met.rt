@@ -1,13 +1,9 @@
 // The rows that words meet, and the numbers that the words become.
 ghost use Rattle.std.specs.Prelude.{◌≡◌, ℕ, ◌+◌, ◌^◌, ◌<◌, ◌≤◌, true, false, length, slice_index};
 ghost use Rattle.columns.specs.Column.{met_rows};
-ghost use Rattle.columns.specs.Fold.{row_number};
-ghost use Rattle.columns.specs.Jobs.{reach_from, region as region_of, row_by, standing};
-ghost use Rattle.image.specs.Read.{typed_slot};
-ghost use Rattle.image.specs.Slot.{null};
+ghost use Rattle.columns.specs.Jobs.{reach_from, region as region_of};
 ghost use Rattle.layout.specs.declared.data_type.DataType.TheVariants.{Dictionary, List as ListOf};
-ghost use Rattle.leaves.specs.Rows.{by_place, is_leaf, row_of};
-ghost use Rattle.row_rule.specs.Number.{number_of};
+ghost use Rattle.leaves.specs.Rows.{is_leaf, row_of};
 
 use crate::fold::References;
 use crate::nested::{
@@ -60,10 +56,12 @@ fn bounds(list: &[u32], rows: u32) -> Span
 }
 
 impl Met<'_, '_> {
+    ghost use Rattle.columns.specs.Words.{leaf_words, row_met};
+
     // The rows from the first to the last that is met. The list is taken apart by `let .. else`, as all lists of rows are.
     pub(crate) fn span(&self) -> Span
         ensures within { result.from + result.size ≤ self.now.node.column.record.rows }
-        ensures met { (j : ℕ) → j < self.now.n → (result.from ≤ row_of self.now.rows.lo self.now.rows.list j) × (row_of self.now.rows.lo self.now.rows.list j < result.from + result.size) }
+        ensures met { (j : ℕ) → j < self.now.n → (result.from ≤ row_met self.now j) × (row_met self.now j < result.from + result.size) }
     {
         let Some(list) = self.rows.list else {
             return Span {
@@ -78,7 +76,7 @@ impl Met<'_, '_> {
     fn hash_leaf<S: HashState>(&self, state: &S, words: &mut [u64])
         requires leaf { is_leaf self.now.node.t ≡ true }
         requires words { length words.old ≡ self.now.n }
-        ensures { words.new ≡ by_place (λ j e. number_of (S.BuildHasher.one state.now) (S.HashState.seeded state.now) self.now.first e (typed_slot self.now.node.t self.now.node.column.bytes.now self.now.node.column.record (λ _ _. null) (row_of self.now.rows.lo self.now.rows.list j))) 0 words.old }
+        ensures { words.new ≡ leaf_words (S.BuildHasher.one state.now) (S.HashState.seeded state.now) self.now words.old }
     {
         hash_leaf(
             self.node.column,
@@ -104,13 +102,15 @@ pub(crate) struct Fold<'a, 'l, 'w> {
 }
 
 impl Fold<'_, '_, '_> {
+    ghost use Rattle.columns.specs.Words.{folded_number, folded_words, hashed_words, row_met};
+
     // The number of a row of the span, from its word; a row that is marked null keeps it. Rows are of the size of
     // places here, so that a row's element is found by no cast.
     fn number<A: NestedArray>(self, array: &A, row: usize, e: u64) -> u64
         requires covered { (self.span.from ≤ row) × (row < self.span.from + self.span.size) }
         requires column { A.NestedArray.column array.now ≡ self.met.node.column }
         requires kind { A.NestedArray.data_type array.now ≡ self.met.node.t }
-        ensures { result ≡ row_number self.entry.met.node.t self.entry.met.node.column.bytes.now self.entry.met.node.column.record (standing self.entry.region.numbers.now self.entry.region.from) self.entry.met.first e row }
+        ensures { result ≡ folded_number self.entry e row }
     {
         if self.met.node.is_marked(row as u32) {
             return e;
@@ -132,8 +132,8 @@ impl Fold<'_, '_, '_> {
         requires column { A.NestedArray.column array.now ≡ self.met.node.column }
         requires kind { A.NestedArray.data_type array.now ≡ self.met.node.t }
         requires callable { (j : ℕ) → j < length words.old → F.pre row_at j }
-        requires rows { (j row : ℕ) → j < length words.old → F.post row_at j row → row ≡ row_of self.met.rows.lo self.met.rows.list j }
-        ensures { words.new ≡ by_place (λ j e. row_number self.entry.met.node.t self.entry.met.node.column.bytes.now self.entry.met.node.column.record (standing self.entry.region.numbers.now self.entry.region.from) self.entry.met.first e (row_of self.entry.met.rows.lo self.entry.met.rows.list j)) 0 words.old }
+        requires rows { (j row : ℕ) → j < length words.old → F.post row_at j row → row ≡ row_met self.met j }
+        ensures { words.new ≡ folded_words self.entry words.old }
     {
         for (j, word) in words.iter_mut().enumerate() {
             *word = self.number(array, row_at(j), *word);
@@ -146,7 +146,7 @@ impl Fold<'_, '_, '_> {
         requires words { length words.old ≡ self.met.n }
         requires column { A.NestedArray.column array ≡ self.met.node.column }
         requires kind { A.NestedArray.data_type array ≡ self.met.node.t }
-        ensures { words.new ≡ by_place (λ j e. row_number self.entry.met.node.t self.entry.met.node.column.bytes.now self.entry.met.node.column.record (standing self.entry.region.numbers.now self.entry.region.from) self.entry.met.first e (row_of self.entry.met.rows.lo self.entry.met.rows.list j)) 0 words.old }
+        ensures { words.new ≡ folded_words self.entry words.old }
     {
         let lo = self.met.rows.lo as usize;
         let Some(list) = self.met.rows.list else {
@@ -160,7 +160,7 @@ impl Fold<'_, '_, '_> {
     fn fold_offsets<O: Wide + Drop>(self, words: &mut [u64])
         requires words { length words.old ≡ self.met.n }
         requires kind { self.met.node.t ≡ ListOf O.Native.width }
-        ensures { words.new ≡ by_place (λ j e. row_number self.entry.met.node.t self.entry.met.node.column.bytes.now self.entry.met.node.column.record (standing self.entry.region.numbers.now self.entry.region.from) self.entry.met.first e (row_of self.entry.met.rows.lo self.entry.met.rows.list j)) 0 words.old }
+        ensures { words.new ≡ folded_words self.entry words.old }
     {
         let column = self.met.node.column;
         let offsets = PhantomData::<O>;
@@ -170,7 +170,7 @@ impl Fold<'_, '_, '_> {
     fn fold_list(self, width: Width, words: &mut [u64])
         requires words { length words.old ≡ self.met.n }
         requires kind { self.met.node.t ≡ ListOf width }
-        ensures { words.new ≡ by_place (λ j e. row_number self.entry.met.node.t self.entry.met.node.column.bytes.now self.entry.met.node.column.record (standing self.entry.region.numbers.now self.entry.region.from) self.entry.met.first e (row_of self.entry.met.rows.lo self.entry.met.rows.list j)) 0 words.old }
+        ensures { words.new ≡ folded_words self.entry words.old }
     {
         match width {
             Width::One => self.fold_offsets::<u8>(words),
@@ -185,7 +185,7 @@ impl Fold<'_, '_, '_> {
     fn fold_keys<K: Wide + Drop>(self, signed: bool, words: &mut [u64])
         requires words { length words.old ≡ self.met.n }
         requires kind { self.met.node.t ≡ Dictionary K.Native.width signed }
-        ensures { words.new ≡ by_place (λ j e. row_number self.entry.met.node.t self.entry.met.node.column.bytes.now self.entry.met.node.column.record (standing self.entry.region.numbers.now self.entry.region.from) self.entry.met.first e (row_of self.entry.met.rows.lo self.entry.met.rows.list j)) 0 words.old }
+        ensures { words.new ≡ folded_words self.entry words.old }
     {
         let rows = References::of(&self.met.node);
         let region = Region {
@@ -204,7 +204,7 @@ impl Fold<'_, '_, '_> {
     fn fold_dictionary(self, width: Width, signed: bool, words: &mut [u64])
         requires words { length words.old ≡ self.met.n }
         requires kind { self.met.node.t ≡ Dictionary width signed }
-        ensures { words.new ≡ by_place (λ j e. row_number self.entry.met.node.t self.entry.met.node.column.bytes.now self.entry.met.node.column.record (standing self.entry.region.numbers.now self.entry.region.from) self.entry.met.first e (row_of self.entry.met.rows.lo self.entry.met.rows.list j)) 0 words.old }
+        ensures { words.new ≡ folded_words self.entry words.old }
     {
         match width {
             Width::One => self.fold_keys::<u8>(signed, words),
@@ -218,7 +218,7 @@ impl Fold<'_, '_, '_> {
     fn fold(self, words: &mut [u64])
         requires nested { is_leaf self.met.node.t ≡ false }
         requires words { length words.old ≡ self.met.n }
-        ensures { words.new ≡ by_place (λ j e. row_number self.entry.met.node.t self.entry.met.node.column.bytes.now self.entry.met.node.column.record (standing self.entry.region.numbers.now self.entry.region.from) self.entry.met.first e (row_of self.entry.met.rows.lo self.entry.met.rows.list j)) 0 words.old }
+        ensures { words.new ≡ folded_words self.entry words.old }
     {
         let node = self.met.node;
         let column = node.column;
@@ -244,7 +244,7 @@ impl Fold<'_, '_, '_> {
     // Each word by the row rule: of a leaf by its row, else by the numbers of the row's child rows.
     pub(crate) fn hash<S: HashState>(self, state: &S, words: &mut [u64])
         requires { length words.old ≡ self.met.n }
-        ensures { words.new ≡ by_place (λ j e. row_by (S.BuildHasher.one state.now) (S.HashState.seeded state.now) self.entry.met.node.column.bytes.now self.entry.met.node.t self.entry.met.node.column.record (standing self.entry.region.numbers.now self.entry.region.from) self.entry.met.first e (row_of self.entry.met.rows.lo self.entry.met.rows.list j)) 0 words.old }
+        ensures { words.new ≡ hashed_words (S.BuildHasher.one state.now) (S.HashState.seeded state.now) self.entry words.old }
     {
         if self.met.node.is_leaf() {
             self.met.hash_leaf(state, words);

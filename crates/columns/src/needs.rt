@@ -1,8 +1,8 @@
 // How many words of work a node needs.
-ghost use Rattle.std.specs.Prelude.{◌≡◌, ℕ, ◌<◌, ◌≤◌, slice_index};
+ghost use Rattle.std.specs.Prelude.{◌≡◌, ◌<◌};
 ghost use Rattle.columns.specs.Column.{node_need};
 ghost use Rattle.columns.specs.Jobs.{kids, most, need, needs_of};
-ghost use Rattle.layout.specs.Nodes.{child};
+ghost use Rattle.columns.specs.Seams.{NeedsThere};
 ghost use Rattle.layout.specs.Records.{nodes};
 
 use crate::node::Node;
@@ -10,7 +10,7 @@ use image::place::Image;
 
 // The most of a child's rows and its need, as the table has them.
 fn need_of(node: &Node<'_>, needs: &[u32; 256]) -> u32
-    requires { (k : ℕ) → k < kids node.now.t node.now.column.record → (child node.now.column.bytes.now node.now.column.record k < 256) × (slice_index needs.now (child node.now.column.bytes.now node.now.column.record k) ≤ 16777216) }
+    requires { NeedsThere node.now needs.now }
     ensures { result ≡ most (needs_of node.now.column.bytes.now node.now.column.record needs.now) (kids node.now.t node.now.column.record) }
 {
     let mut most = 0u32;

@@ -1,7 +1,7 @@
 // The kinds of columns with children, each by how an element's number comes from the numbers of its child rows.
 ghost use Rattle.std.specs.Prelude.{◌≡◌, ◌^◌, ◌<◌, length};
 ghost use Rattle.columns.specs.Fold.{folded};
-ghost use Rattle.columns.specs.Jobs.{standing};
+ghost use Rattle.columns.specs.Region.{number_in};
 ghost use Rattle.columns.specs.Seams.{FoldThere};
 ghost use Rattle.layout.specs.declared.column.Column.{Column};
 ghost use Rattle.layout.specs.declared.data_type.DataType.{DataType};
@@ -30,7 +30,7 @@ pub(crate) trait NestedArray {
     fn fold(&self, at: usize, region: Region<'_>, first: bool, e: u64) -> u64
         requires reached { FoldThere (data_type self.now) (column self.now).bytes.now (column self.now).record at region.from (length region.numbers.now) }
         requires small { at < 2 ^ 32 }
-        ensures { result ≡ folded (data_type self.now) (column self.now).bytes.now (column self.now).record (standing region.entry.numbers.now region.entry.from) first e at };
+        ensures { result ≡ folded (data_type self.now) (column self.now).bytes.now (column self.now).record (number_in region.entry) first e at };
 }
 
 #[derive(Drop)]
@@ -139,6 +139,6 @@ impl NestedArray for RunArray<'_> {
     ghost data_type = { λ s. RunEnd s.runs.width };
 
     fn fold(&self, at: usize, region: Region<'_>, first: bool, e: u64) -> u64 {
-        hash_run_array(&self.rows, &self.runs, &self.before, at, region, first, e)
+        hash_run_array(self, at, region, first, e)
     }
 }

@@ -1,6 +1,7 @@
 // The runs of a column, by the ends that they rise to.
-ghost use Rattle.std.specs.Prelude.{◌≡◌, ◌+◌, ◌-◌, ◌*◌, ◌<◌, ◌≤◌, false, ◌&&◌, length, if◌then◌else◌, ◌==◌, nat_eq, nat_lt};
+ghost use Rattle.std.specs.Prelude.{◌≡◌, ◌+◌, ◌-◌, ◌*◌, ◌<◌, ◌≤◌, false, ◌&&◌, length, ◌==◌, nat_lt};
 ghost use Rattle.admission.specs.Rejections.{bad_run_ends};
+ghost use Rattle.columns.specs.Jobs.{run_till};
 ghost use Rattle.columns.specs.Seams.{RunsThere};
 ghost use Rattle.image.specs.Read.{run_of};
 ghost use Rattle.layout.specs.Bytes.{wide};
@@ -81,7 +82,7 @@ impl Runs<'_> {
     pub(crate) fn between(&self, at: u64, n: u32) -> Span
         requires { RunsThere self.now.width self.now.column.bytes.now self.now.column.record at n }
         ensures from { result.from ≡ run_of self.now.width self.now.column.bytes.now self.now.column.record at }
-        ensures size { result.size ≡ (if nat_eq n 0 then run_of self.now.width self.now.column.bytes.now self.now.column.record at else run_of self.now.width self.now.column.bytes.now self.now.column.record (at + n - 1) + 1) - run_of self.now.width self.now.column.bytes.now self.now.column.record at }
+        ensures size { result.size ≡ run_till self.now.width self.now.column.bytes.now self.now.column.record at n - run_of self.now.width self.now.column.bytes.now self.now.column.record at }
     {
         let from = self.find(at);
         if n == 0 {

@@ -2,7 +2,6 @@ use Rattle.std.proofs.Common.{◌≡◌, ℕ, ◌-◌, List, ◌++◌, length, t
 use borrow.Rule.Slice.PartMut.{Post-is, post_of}
 use Rattle.std.proofs.lemmas.List.{length-take}
 use Rattle.layout.specs.Records.{record_at}
-use Rattle.admission.proofs.Sound.{sound_few}
 use Rattle.image.specs.Read.{slot_at}
 use Rattle.row_rule.specs.Number.{number_of}
 use Rattle.leaves.specs.Rows.{by_place, row_of}
