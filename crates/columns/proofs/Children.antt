@@ -1,6 +1,6 @@
 -- A column's children, one after the other over one region.
-use Rattle.std.proofs.Common.{◌≡◌, ℕ, zero, suc, ◌+◌, ◌<◌, ◌≤◌, Bool, true, false, cond, List, length, get_or, sym, refl, ap, ◌∙◌, add-one, arith}
-use Rattle.layout.specs.Nodes.{child}
+use Rattle.std.proofs.Common.{◌≡◌, ℕ, zero, suc, ◌+◌, ◌<◌, ◌≤◌, Bool, true, false, cond, List, length, get_or, sym, refl, ap, ◌∙◌, add-one, arith, Some}
+use Rattle.layout.specs.Nodes.{child, child_count}
 use Rattle.layout.specs.Records.{nodes, record_at}
 use Rattle.admission.specs.FirstFault.{sound}
 use Rattle.hash_state.specs.Writes.{Write}
@@ -9,7 +9,7 @@ use Rattle.image.specs.Slot.{null}
 use Rattle.row_rule.specs.Number.{number_of}
 use Rattle.leaves.specs.Rows.{is_leaf}
 use Rattle.columns.specs.Fold.{entry, is_first, row_number, through}
-use Rattle.columns.specs.Jobs.{Did, kids, need, opened, plan, reach_from, region, row_by, standing}
+use Rattle.columns.specs.Jobs.{Did, need, opened, plan, reach_from, region, row_by, standing}
 use Rattle.columns.specs.Machine.{Fits, complete}
 use Rattle.columns.specs.declared.job.Job.{Job}
 use Rattle.columns.specs.declared.node.Node.{Node}
@@ -72,11 +72,11 @@ module _ (ONE : List Write → ℕ) (SEED : ℕ → List Write → ℕ) (n : Nod
   nested_number : (lo count row : ℕ) (numbers : List ℕ) (y : ℕ → ℕ) (first : Bool) (e : ℕ)
       → lo + count ≤ n.column.record.rows → lo ≤ row → row < lo + count → is_leaf n.t ≡ false
       → ((x : ℕ) → x < region n.t (image_of n) n.column.record lo count
-      → get_or numbers x 0 ≡ through (λ s z. number_of ONE SEED (is_first s) (entry s z) (slot_at (image_of n) (child (image_of n) n.column.record s) (reach_from n.t (image_of n) n.column.record lo + x))) (kids n.t n.column.record) 0 (y x))
+      → get_or numbers x 0 ≡ through (λ s z. number_of ONE SEED (is_first s) (entry s z) (slot_at (image_of n) (child (image_of n) n.column.record s) (reach_from n.t (image_of n) n.column.record lo + x))) (child_count (Some n.t) n.column.record) 0 (y x))
       → row_number n.t (image_of n) n.column.record (standing numbers (reach_from n.t (image_of n) n.column.record lo)) first e row ≡ number_of ONE SEED first e (slot_at (image_of n) n.number row)
   nested_number lo count row numbers y first e =
       of_node (λ b t r. lo + count ≤ r.rows → lo ≤ row → row < lo + count → is_leaf t ≡ false
-      → ((x : ℕ) → x < region t b r lo count → get_or numbers x 0 ≡ through (λ s z. number_of ONE SEED (is_first s) (entry s z) (slot_at b (child b r s) (reach_from t b r lo + x))) (kids t r) 0 (y x))
+      → ((x : ℕ) → x < region t b r lo count → get_or numbers x 0 ≡ through (λ s z. number_of ONE SEED (is_first s) (entry s z) (slot_at b (child b r s) (reach_from t b r lo + x))) (child_count (Some t) r) 0 (y x))
       → row_number t b r (standing numbers (reach_from t b r lo)) first e row ≡ number_of ONE SEED first e (slot_at b n.number row))
       n (image_of n) n.number refl refl
       (column_number ONE SEED (image_of n) n.sound (reached (image_of n) n.sound) n.number lo count row numbers y first e n.there)
@@ -84,7 +84,7 @@ module _ (ONE : List Write → ℕ) (SEED : ℕ → List Write → ℕ) (n : Nod
   pub node_number : (lo count row : ℕ) (numbers : List ℕ) (y : ℕ → ℕ) (first : Bool) (e : ℕ)
       → lo + count ≤ n.column.record.rows → lo ≤ row → row < lo + count
       → ((x : ℕ) → x < region n.t (image_of n) n.column.record lo count
-      → get_or numbers x 0 ≡ through (λ s z. number_of ONE SEED (is_first s) (entry s z) (slot_at (image_of n) (child (image_of n) n.column.record s) (reach_from n.t (image_of n) n.column.record lo + x))) (kids n.t n.column.record) 0 (y x))
+      → get_or numbers x 0 ≡ through (λ s z. number_of ONE SEED (is_first s) (entry s z) (slot_at (image_of n) (child (image_of n) n.column.record s) (reach_from n.t (image_of n) n.column.record lo + x))) (child_count (Some n.t) n.column.record) 0 (y x))
       → row_by ONE SEED (image_of n) n.t n.column.record (standing numbers (reach_from n.t (image_of n) n.column.record lo)) first e row ≡ number_of ONE SEED first e (slot_at (image_of n) n.number row)
   node_number lo count row numbers y first e rows low high holds = by_leaf (is_leaf n.t) refl
     where

@@ -14,10 +14,10 @@ use Rattle.image.specs.Slot.{Slot, null}
 use Rattle.row_rule.specs.Number.{combined, number_of}
 use Rattle.leaves.specs.Rows.{is_leaf}
 use Rattle.columns.specs.Fold.{combined_all, entry, folded, is_marked, row_number, through}
-use Rattle.columns.specs.Jobs.{Did, Fine, each, ended, opened, part, reach_from, region, row_by, splice, standing, type_of}
+use Rattle.columns.specs.Jobs.{Did, Fine, each, ended, opened, words_at, reach_from, region, row_by, splice, standing, type_of}
 use Rattle.columns.specs.declared.job.Job.{Job}
 use Rattle.columns.specs.Machine.{turns}
-use Rattle.columns.proofs.Splices.{get_or-each, get_or-part, get_or-splice_below, get_or-splice_in, length-each, length-splice}
+use Rattle.columns.proofs.Splices.{get_or-each, get_or-words_at, get_or-splice_below, get_or-splice_in, length-each, length-splice}
 
 -- a statement holds of each child row that an element uses
 abbrev pub Uses : DataType → List ℕ → Record → ℕ → (ℕ → Type 0) → Type 0
@@ -170,15 +170,15 @@ module _ (ONE : List Write → ℕ) (SEED : ℕ → List Write → ℕ) (bytes :
       from : ℕ
       from = reach_from t bytes r j.lo
 
-      stands : (x : ℕ) → x < region t bytes r j.lo j.n → standing (part (j.at + j.n) (region t bytes r j.lo j.n) w) from (from + x) ≡ v (from + x)
+      stands : (x : ℕ) → x < region t bytes r j.lo j.n → standing (words_at (j.at + j.n) (region t bytes r j.lo j.n) w) from (from + x) ≡ v (from + x)
       stands x l =
           let e : from + x - from ≡ x = omega arith in
-          ap (λ (m : ℕ). get_or (part (j.at + j.n) (region t bytes r j.lo j.n) w) m 0) e ∙ get_or-part (j.at + j.n) (region t bytes r j.lo j.n) w x l ∙ holds x l
+          ap (λ (m : ℕ). get_or (words_at (j.at + j.n) (region t bytes r j.lo j.n) w) m 0) e ∙ get_or-words_at (j.at + j.n) (region t bytes r j.lo j.n) w x l ∙ holds x l
 
       by_leaf : (i : ℕ) → i < j.n → (b : Bool)
           → cond b (number_of ONE SEED j.first (get_or w (j.at + i) 0) (typed_slot t bytes r (λ _ _. null) (j.lo + i)))
-          (row_number t bytes r (standing (part (j.at + j.n) (region t bytes r j.lo j.n) w) from) j.first (get_or w (j.at + i) 0) (j.lo + i))
+          (row_number t bytes r (standing (words_at (j.at + j.n) (region t bytes r j.lo j.n) w) from) j.first (get_or w (j.at + i) 0) (j.lo + i))
           ≡ cond b (number_of ONE SEED j.first (get_or w (j.at + i) 0) (typed_slot t bytes r (λ _ _. null) (j.lo + i)))
           (row_number t bytes r v j.first (get_or w (j.at + i) 0) (j.lo + i))
       by_leaf i l true = refl
-      by_leaf i l false = row_same j.node j.lo j.n (j.lo + i) (standing (part (j.at + j.n) (region t bytes r j.lo j.n) w) from) v j.first (get_or w (j.at + i) 0) fine.there fine.rows (omega arith) (omega arith) stands
+      by_leaf i l false = row_same j.node j.lo j.n (j.lo + i) (standing (words_at (j.at + j.n) (region t bytes r j.lo j.n) w) from) v j.first (get_or w (j.at + i) 0) fine.there fine.rows (omega arith) (omega arith) stands

@@ -1,5 +1,5 @@
 -- The need of a node does not depend on how many levels it is told by, and is small.
-use Rattle.std.proofs.Common.{◌≡◌, ℕ, zero, suc, ◌+◌, ◌-◌, ◌*◌, ◌<◌, ◌≤◌, max, true, false, eqb, List, get_or, sym, refl, ap, ◌∙◌, ap₂, inl, inr, arith}
+use Rattle.std.proofs.Common.{◌≡◌, ℕ, zero, suc, ◌+◌, ◌-◌, ◌*◌, ◌<◌, ◌≤◌, max, true, false, eqb, List, get_or, sym, refl, ap, ◌∙◌, ap₂, inl, inr, arith, Some}
 use Rattle.std.proofs.lemmas.Bool.{cases_eq, cond-true, eq-eqb, true≢false}
 use Rattle.layout.specs.declared.data_type.DataType.{DataType}
 use Rattle.layout.specs.declared.record.Record.{Record}
@@ -10,7 +10,7 @@ use Rattle.admission.specs.FirstFault.{sound}
 use Rattle.admission.specs.Rejections.{higher}
 use Rattle.admission.proofs.Below.{none_at}
 use Rattle.admission.proofs.Links.{child_behind}
-use Rattle.columns.specs.Jobs.{kids, most, need, need_within, needs_of, reach_from, reach_till, region, type_of}
+use Rattle.columns.specs.Jobs.{most, need, need_within, needs_of, reach_from, reach_till, region, type_of}
 use Rattle.columns.proofs.Fitting.{counts, need_at}
 use Rattle.columns.proofs.Ranges.{short}
 use Rattle.columns.proofs.Reaching.{reach_inside}
@@ -61,8 +61,8 @@ module _ (bytes : List ℕ) (is-sound : sound bytes ≡ true) where
 
   -- the need of a node, from a table that has those of its children
   pub need_by : (node : ℕ) (needs : List ℕ) → node < nodes bytes
-      → ((k : ℕ) → k < kids (type_of bytes node) (record_at bytes node) → get_or needs (child bytes (record_at bytes node) k) 0 ≡ need bytes (child bytes (record_at bytes node) k))
-      → most (needs_of bytes (record_at bytes node) needs) (kids (type_of bytes node) (record_at bytes node)) ≡ need bytes node
+      → ((k : ℕ) → k < child_count (Some (type_of bytes node)) (record_at bytes node) → get_or needs (child bytes (record_at bytes node) k) 0 ≡ need bytes (child bytes (record_at bytes node) k))
+      → most (needs_of bytes (record_at bytes node) needs) (child_count (Some (type_of bytes node)) (record_at bytes node)) ≡ need bytes node
   need_by node needs there each =
       let low = (passed bytes is-sound node there).low in
       let few = counts bytes is-sound node there in
@@ -74,7 +74,7 @@ module _ (bytes : List ℕ) (is-sound : sound bytes ≡ true) where
       (each k (omega (arith, few)) ∙ need_same 15 16 15 (child bytes (record_at bytes node) k) down.1 down.0 (omega arith) (omega arith)))
 
   -- a region and the need of a child are together within the node's need
-  pub region_need : (node lo n s : ℕ) → node < nodes bytes → lo + n ≤ (record_at bytes node).rows → s < kids (type_of bytes node) (record_at bytes node)
+  pub region_need : (node lo n s : ℕ) → node < nodes bytes → lo + n ≤ (record_at bytes node).rows → s < child_count (Some (type_of bytes node)) (record_at bytes node)
       → region (type_of bytes node) bytes (record_at bytes node) lo n + need bytes (child bytes (record_at bytes node) s) ≤ need bytes node
   region_need node lo n s there rows h =
       let p = passed bytes is-sound node there in
@@ -91,7 +91,7 @@ module _ (bytes : List ℕ) (is-sound : sound bytes ≡ true) where
   region_inside node lo n there rows =
       let t : DataType = type_of bytes node in
       let r : Record = record_at bytes node in
-      elim (cases_eq (kids t r) 0) [
-        | inl q ↦ omega (arith, cond-true (eqb (kids t r) 0) 0 (reach_till t bytes r lo n - reach_from t bytes r lo) (eq-eqb (kids t r) 0 q))
+      elim (cases_eq (child_count (Some t) r) 0) [
+        | inl q ↦ omega (arith, cond-true (eqb (child_count (Some t) r) 0) 0 (reach_till t bytes r lo n - reach_from t bytes r lo) (eq-eqb (child_count (Some t) r) 0 q))
         | inr q ↦ omega (arith, region_need node lo n 0 there rows (omega arith))
       ]

@@ -4,7 +4,7 @@ use Rattle.layout.specs.declared.data_type.DataType.{DataType}
 use Rattle.layout.specs.declared.data_type.DataType.TheVariants.{View, Dictionary, Struct, List as ListOf, ListView, Map, FixedSizeList, RunEnd}
 use Rattle.layout.specs.declared.bytes.Width.{Width}
 use Rattle.layout.specs.declared.record.Record.{Record}
-use Rattle.layout.specs.Nodes.{HoldsBit, child, child_rows, marked, reads_nulls, table, typed_mark}
+use Rattle.layout.specs.Nodes.{child, child_count, child_rows, HoldsBit, marked, reads_nulls, table, typed_mark}
 use Rattle.layout.specs.Records.{nodes, record_at}
 use Rattle.layout.specs.Types.{data_type}
 use Rattle.layout.specs.Views.{view_place}
@@ -16,7 +16,7 @@ use Rattle.admission.proofs.Sound.{Passed, sound_headed, sound_read}
 use Rattle.image.proofs.Readable.{bit_there, readable}
 use Rattle.leaves.specs.Rows.{LeafRow, Padded, is_leaf}
 use Rattle.columns.specs.Fold.{is_marked}
-use Rattle.columns.specs.Jobs.{kids, need, reach_from, region, type_of}
+use Rattle.columns.specs.Jobs.{need, reach_from, region, type_of}
 use Rattle.columns.specs.Seams.{FoldThere, ReachThere, RunsThere}
 use Rattle.columns.specs.declared.node.Node.{Node}
 use Rattle.columns.proofs.Needed.{region_inside, region_need}
@@ -62,14 +62,14 @@ module _ (n : Node) where
   node_bit row h = bit_there (image_of n) n.number row n.column.record (sound_headed (image_of n) n.sound (omega (arith, n.there))) h n.t node_passed
 
   -- the number of a child can be read, and the child and its record are there
-  pub node_child : (index : ℕ) → index < kids n.t n.column.record
+  pub node_child : (index : ℕ) → index < child_count (Some n.t) n.column.record
       → (n.column.record.tab + 4 * index + 4 ≤ length (image_of n)) × (child (image_of n) n.column.record index < nodes (image_of n)) × (4 + 36 * child (image_of n) n.column.record index + 36 ≤ length (image_of n))
   node_child index h =
       let behind = child_behind (image_of n) n.number n.column.record (table n.t) node_passed.tabled node_passed.lined index h in
       (behind.0, behind.2, omega (arith, sound_headed (image_of n) n.sound (omega (arith, n.there)), behind.2))
 
   -- a child has few rows, as every node has
-  pub child_few : (index : ℕ) → index < kids n.t n.column.record → child_rows (image_of n) n.column.record index ≤ 1048576
+  pub child_few : (index : ℕ) → index < child_count (Some n.t) n.column.record → child_rows (image_of n) n.column.record index ≤ 1048576
   child_few index h =
       let there = (node_child index h).1 in
       (short (record_at (image_of n) (child (image_of n) n.column.record index)) (passed (image_of n) n.sound (child (image_of n) n.column.record index) there).short).0
@@ -98,24 +98,24 @@ module _ (n : Node) where
   node_fold lo count row rows low high m = fold_there (image_of n) n.number n.column.record lo count row rows low high n.t node_passed node_linked (child_few 0) m
 
   -- a range reaches no further than a child's rows
-  pub node_inside : (lo count : ℕ) → lo + count ≤ n.column.record.rows → (s : ℕ) → s < kids n.t n.column.record → reach_from n.t (image_of n) n.column.record lo + region n.t (image_of n) n.column.record lo count ≤ child_rows (image_of n) n.column.record s
+  pub node_inside : (lo count : ℕ) → lo + count ≤ n.column.record.rows → (s : ℕ) → s < child_count (Some n.t) n.column.record → reach_from n.t (image_of n) n.column.record lo + region n.t (image_of n) n.column.record lo count ≤ child_rows (image_of n) n.column.record s
   node_inside lo count rows s h = reach_inside (image_of n) n.number n.column.record lo count rows n.t node_passed s h
 
   -- a region, and with it the need of each child, is within the node's need
   pub node_room : (lo count : ℕ) → lo + count ≤ n.column.record.rows
       → (region n.t (image_of n) n.column.record lo count ≤ need (image_of n) n.number)
-      × ((s : ℕ) → s < kids n.t n.column.record → region n.t (image_of n) n.column.record lo count + need (image_of n) (child (image_of n) n.column.record s) ≤ need (image_of n) n.number)
+      × ((s : ℕ) → s < child_count (Some n.t) n.column.record → region n.t (image_of n) n.column.record lo count + need (image_of n) (child (image_of n) n.column.record s) ≤ need (image_of n) n.number)
   node_room lo count =
       of_node (λ b t r. lo + count ≤ r.rows
       → (region t b r lo count ≤ need (image_of n) n.number)
-      × ((s : ℕ) → s < kids t r → region t b r lo count + need (image_of n) (child b r s) ≤ need (image_of n) n.number))
+      × ((s : ℕ) → s < child_count (Some t) r → region t b r lo count + need (image_of n) (child b r s) ≤ need (image_of n) n.number))
       n (image_of n) n.number refl refl
       (λ rows. (region_inside (image_of n) n.sound n.number lo count n.there rows, λ s h. region_need (image_of n) n.sound n.number lo count s n.there rows h))
 
   -- a node whose rows refer to others has a child
-  pub refers_to_child : (t : DataType) → n.t ≡ t → is_leaf t ≡ false → (Counted t n.column.record.cnt → 0 < kids t n.column.record) → 0 < kids n.t n.column.record
+  pub refers_to_child : (t : DataType) → n.t ≡ t → is_leaf t ≡ false → (Counted t n.column.record.cnt → 0 < child_count (Some t) n.column.record) → 0 < child_count (Some n.t) n.column.record
   refers_to_child t e l h =
-      subst (λ (s : DataType). 0 < kids s n.column.record) (sym e)
+      subst (λ (s : DataType). 0 < child_count (Some s) n.column.record) (sym e)
       (h (subst (λ (s : DataType). Counted s n.column.record.cnt) e (counted (length (image_of n)) n.t n.column.record (ap is_leaf e ∙ l) node_passed.tabled)))
 
   -- a row of a leaf can be read

@@ -3,7 +3,7 @@ use Rattle.std.proofs.Common.{◌≡◌, ℕ, zero, suc, ◌+◌, ◌-◌, ◌<�
 use Rattle.std.proofs.lemmas.Bool.{cond-false}
 use Rattle.layout.specs.declared.record.Record.{Record}
 use Rattle.layout.specs.declared.data_type.DataType.{DataType}
-use Rattle.layout.specs.Nodes.{child}
+use Rattle.layout.specs.Nodes.{child, child_count}
 use Rattle.layout.specs.Records.{nodes, record_at}
 use Rattle.admission.specs.FirstFault.{sound}
 use Rattle.admission.proofs.Links.{child_behind}
@@ -14,7 +14,7 @@ use Rattle.image.proofs.Levels.{deep_enough}
 use Rattle.row_rule.specs.Number.{is_null, number_of}
 use Rattle.leaves.specs.Rows.{is_leaf}
 use Rattle.columns.specs.Fold.{entry, is_first, is_marked, row_number, through}
-use Rattle.columns.specs.Jobs.{Did, Fine, kids, plan, reach_from, region, row_by, standing, type_of}
+use Rattle.columns.specs.Jobs.{Did, Fine, plan, reach_from, region, row_by, standing, type_of}
 use Rattle.columns.specs.declared.job.Job.{Job}
 use Rattle.columns.specs.Machine.{Fits, complete, turns}
 use Rattle.columns.proofs.Meaning.{Reached, did_then, ended_did, leaf_slot, opened_did, row_same, through_start, turns_did}
@@ -22,9 +22,9 @@ use Rattle.columns.proofs.Rule.{marked_slot, row_rule, values}
 use Rattle.columns.proofs.Typed.{counted, passed, typed}
 
 -- only a node with children has a region
-some_kids : (k size x : ℕ) → x < cond (eqb k 0) 0 size → 0 < k
-some_kids zero size x h = absurd (omega arith)
-some_kids (suc k) size x h = omega arith
+some_children : (k size x : ℕ) → x < cond (eqb k 0) 0 size → 0 < k
+some_children zero size x h = absurd (omega arith)
+some_children (suc k) size x h = omega arith
 
 module _ (ONE : List Write → ℕ) (SEED : ℕ → List Write → ℕ) (bytes : List ℕ) (is-sound : sound bytes ≡ true) where
   -- the slot of a node by its type
@@ -37,7 +37,7 @@ module _ (ONE : List Write → ℕ) (SEED : ℕ → List Write → ℕ) (bytes :
   mark_of zero node there h q = absurd (omega arith)
   mark_of (suc f) node there h q = marked_slot f bytes node q (type_of bytes node) (typed bytes is-sound node there)
 
-  node_rule : (f node row : ℕ) (first : Bool) (e : ℕ) → node < nodes bytes → (0 < kids (type_of bytes node) (record_at bytes node) → 0 < f)
+  node_rule : (f node row : ℕ) (first : Bool) (e : ℕ) → node < nodes bytes → (0 < child_count (Some (type_of bytes node)) (record_at bytes node) → 0 < f)
       → row_by ONE SEED bytes (type_of bytes node) (record_at bytes node) (values ONE SEED (type_of bytes node) bytes (record_at bytes node) (slot_within f bytes)) first e row
       ≡ number_of ONE SEED first e (slot_within (suc f) bytes node row)
   node_rule f node row first e there deep = by_leaf (is_leaf t) refl ∙ ap (number_of ONE SEED first e) (sym (typed_within f node row there))
@@ -76,21 +76,21 @@ module _ (ONE : List Write → ℕ) (SEED : ℕ → List Write → ℕ) (bytes :
         let size : ℕ = region t bytes r j.lo j.n in
         let fine : Fine ONE SEED bytes len j = h.0 in
         let room = fine.room in
-        let k : kids t r - 0 ≡ kids t r = omega arith in
+        let k : child_count (Some t) r - 0 ≡ child_count (Some t) r = omega arith in
         let v : ℕ → ℕ = values ONE SEED t bytes r (slot_within f bytes) in
-        let kid-did : (s : ℕ) → s < 0 + kids t r → (u : List ℕ) → length u ≡ len
+        let child-did : (s : ℕ) → s < 0 + child_count (Some t) r → (u : List ℕ) → length u ≡ len
         → Did (j.at + j.n) size (λ i x. number_of ONE SEED (is_first s) (entry s x) (slot_within f bytes (child bytes r s) (from + i))) u (complete P f (P.child j s) 0 (P.before j s u)) =
         λ s l u eu.
         let o = opened_did (j.at + j.n) size s u (omega arith) in
         did_then _ _ _ _ u (P.before j s u) _ o (complete_did len f (P.child j s) (P.before j s u) (h.1 s (omega arith)) (o.same ∙ eu)) in
-        let w₁ : List ℕ = turns (λ s u. complete P f (P.child j s) 0 (P.before j s u)) (kids t r) 0 w in
-        let D : Did (j.at + j.n) size (λ i x. through (λ s y. number_of ONE SEED (is_first s) (entry s y) (slot_within f bytes (child bytes r s) (from + i))) (kids t r) 0 x) w w₁ =
-        turns_did (j.at + j.n) size len _ (λ s i x. number_of ONE SEED (is_first s) (entry s x) (slot_within f bytes (child bytes r s) (from + i))) (kids t r) 0 w e kid-did in
+        let w₁ : List ℕ = turns (λ s u. complete P f (P.child j s) 0 (P.before j s u)) (child_count (Some t) r) 0 w in
+        let D : Did (j.at + j.n) size (λ i x. through (λ s y. number_of ONE SEED (is_first s) (entry s y) (slot_within f bytes (child bytes r s) (from + i))) (child_count (Some t) r) 0 x) w w₁ =
+        turns_did (j.at + j.n) size len _ (λ s i x. number_of ONE SEED (is_first s) (entry s x) (slot_within f bytes (child bytes r s) (from + i))) (child_count (Some t) r) 0 w e child-did in
         let same = D.same in
         let fine₁ : Fine ONE SEED bytes (length w₁) j = record { there = fine.there; rows = fine.rows; room = omega arith } in
-        let some : (x : ℕ) → x < size → 0 < kids t r = λ x l. some_kids (kids t r) _ x l in
+        let some : (x : ℕ) → x < size → 0 < child_count (Some t) r = λ x l. some_children (child_count (Some t) r) _ x l in
         let E = ended_did ONE SEED bytes reached j w₁ v fine₁
-        (λ x l. D.rows x l ∙ through_start (kids t r) (λ s y. number_of ONE SEED (is_first s) y (slot_within f bytes (child bytes r s) (from + x))) _ (some x l)) in
+        (λ x l. D.rows x l ∙ through_start (child_count (Some t) r) (λ s y. number_of ONE SEED (is_first s) y (slot_within f bytes (child bytes r s) (from + x))) _ (some x l)) in
         rw k
         (record {
           same = E.same ∙ D.same;
@@ -106,7 +106,7 @@ module _ (ONE : List Write → ℕ) (SEED : ℕ → List Write → ℕ) (bytes :
         → is_leaf (type_of bytes node) ≡ false
         → ((x : ℕ) → x < region (type_of bytes node) bytes (record_at bytes node) lo n
         → get_or numbers x 0
-        ≡ through (λ s z. number_of ONE SEED (is_first s) (entry s z) (slot_at bytes (child bytes (record_at bytes node) s) (reach_from (type_of bytes node) bytes (record_at bytes node) lo + x))) (kids (type_of bytes node) (record_at bytes node)) 0 (y x))
+        ≡ through (λ s z. number_of ONE SEED (is_first s) (entry s z) (slot_at bytes (child bytes (record_at bytes node) s) (reach_from (type_of bytes node) bytes (record_at bytes node) lo + x))) (child_count (Some (type_of bytes node)) (record_at bytes node)) 0 (y x))
         → row_number (type_of bytes node) bytes (record_at bytes node) (standing numbers (reach_from (type_of bytes node) bytes (record_at bytes node) lo)) first e row
         ≡ number_of ONE SEED first e (slot_at bytes node row)
     column_number node lo n row numbers y first e there rows low high nested holds =
@@ -119,7 +119,7 @@ module _ (ONE : List Write → ℕ) (SEED : ℕ → List Write → ℕ) (bytes :
         let z : from + x - from ≡ x = omega arith in
         ap (λ (k : ℕ). get_or numbers k 0) z
         ∙ holds x l
-        ∙ through_start (kids t r) (λ s w. number_of ONE SEED (is_first s) w (slot_within 16 bytes (child bytes r s) (from + x))) (y x) (some_kids (kids t r) _ x l))
+        ∙ through_start (child_count (Some t) r) (λ s w. number_of ONE SEED (is_first s) w (slot_within 16 bytes (child bytes r s) (from + x))) (y x) (some_children (child_count (Some t) r) _ x l))
         ∙ sym (cond-false (is_leaf t) _ (row_number t bytes r v first e row) nested)
         ∙ node_rule 16 node row first e there (λ _. omega arith)
         ∙ ap (number_of ONE SEED first e) (deep_enough bytes is-sound node row there 1)

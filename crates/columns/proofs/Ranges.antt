@@ -1,5 +1,5 @@
 -- What the walk may count on of a range of a node's rows.
-use Rattle.std.proofs.Common.{◌≡◌, ℕ, zero, suc, ◌+◌, ◌-◌, ◌*◌, ◌<◌, ◌≤◌, false, ◌&&◌, eqb, ltb, List, length, refl, subst, mul-le-mul_left, mul-add, arith}
+use Rattle.std.proofs.Common.{◌≡◌, ℕ, zero, suc, ◌+◌, ◌-◌, ◌*◌, ◌<◌, ◌≤◌, false, ◌&&◌, eqb, ltb, List, length, refl, subst, mul-le-mul_left, mul-add, arith, Some}
 use Rattle.std.proofs.lemmas.Bool.{eqb-false, ltb-false, ne_eqb, or_parts}
 use Rattle.layout.specs.declared.bytes.Width.{Width}
 use Rattle.layout.specs.declared.bytes.Width.TheVariants.{Four}
@@ -7,7 +7,7 @@ use Rattle.layout.specs.declared.record.Record.{Record}
 use Rattle.layout.specs.declared.data_type.DataType.{DataType}
 use Rattle.layout.specs.declared.data_type.DataType.TheVariants.{Dictionary, Struct, List as ListOf, ListView, Map, FixedSizeList, RunEnd}
 use Rattle.layout.specs.Bytes.{negative, wide}
-use Rattle.layout.specs.Nodes.{child_rows, element, marked, reads_nulls}
+use Rattle.layout.specs.Nodes.{child_count, child_rows, element, marked, reads_nulls}
 use Rattle.layout.specs.Records.{elements}
 use Rattle.admission.specs.Rejections.{bad_list_view, bad_offsets, last_offset, outside, too_long}
 use Rattle.admission.specs.Seams.{ElementThere, Linked}
@@ -16,7 +16,7 @@ use Rattle.admission.proofs.Reached.{values_passed}
 use Rattle.admission.proofs.Sound.{Passed}
 use Rattle.image.specs.Read.{offset, span}
 use Rattle.image.proofs.Readable.{one_inside}
-use Rattle.columns.specs.Jobs.{kids, reach_from, reach_till, region}
+use Rattle.columns.specs.Jobs.{reach_from, reach_till, region}
 use Rattle.columns.specs.Seams.{FoldThere, OffsetsThere, ReachThere, Within}
 use Rattle.columns.proofs.Reaching.{list_view_there, offset_rises, offsets_inside, region_is, run_rises, run_there, uses_reached}
 use Rattle.columns.proofs.Typed.{exactly}
@@ -45,7 +45,7 @@ module _ (bytes : List ℕ) (node : ℕ) (r : Record) (lo n : ℕ) (rows : lo + 
   counted : (k : ℕ) → 0 < k → r.cnt ≡ k → eqb r.cnt 0 ≡ false
   counted k h e = ne_eqb r.cnt 0 (λ z. omega arith)
 
-  pub reach_there : (t : DataType) → Passed bytes node t r → Linked bytes t r → (0 < kids t r → child_rows bytes r 0 ≤ 1048576) → ReachThere t bytes r lo n
+  pub reach_there : (t : DataType) → Passed bytes node t r → Linked bytes t r → (0 < child_count (Some t) r → child_rows bytes r 0 ≤ 1048576) → ReachThere t bytes r lo n
   reach_there (Dictionary w signed) p l small = (counted 1 (omega arith) (exactly (length bytes) 1 r p.tabled), l)
   reach_there Struct p l small = let few = short r p.short in omega (arith, few.0, few.1)
   reach_there (ListOf w) p l small =
@@ -87,7 +87,7 @@ module _ (bytes : List ℕ) (node : ℕ) (r : Record) (lo n row : ℕ) (rows : l
   element_there : (w : Width) (place : ℕ) → place + wide w * elements r ≤ length bytes → ElementThere w bytes place (r.start + row)
   element_there w place inside = one_inside (wide w) place (r.start + row) (elements r) (length bytes) (omega arith) inside
 
-  row_offsets : (t : DataType) (w : Width) (limit : ℕ) → 0 < kids t r → r.a + wide w * (elements r + 1) ≤ length bytes → bad_offsets w bytes r ≡ false → last_offset w bytes r ≤ limit → limit ≤ 1048576
+  row_offsets : (t : DataType) (w : Width) (limit : ℕ) → 0 < child_count (Some t) r → r.a + wide w * (elements r + 1) ≤ length bytes → bad_offsets w bytes r ≡ false → last_offset w bytes r ≤ limit → limit ≤ 1048576
       → reach_from t bytes r lo ≡ offset w bytes r (r.start + lo) → reach_till t bytes r lo n ≡ offset w bytes r (r.start + lo + n)
       → OffsetsThere w bytes r (r.start + row) 1 × Within (reach_from t bytes r lo) (region t bytes r lo n) (offset w bytes r (r.start + row)) (span w bytes r (r.start + row))
   row_offsets t w limit some inside ordered last small f g =
@@ -99,7 +99,7 @@ module _ (bytes : List ℕ) (node : ℕ) (r : Record) (lo n row : ℕ) (rows : l
       let all = offsets_inside bytes node r lo n rows w limit ordered last in
       (whole, (omega arith, omega (arith, region_is t bytes r lo n some, all.0, whole.2)))
 
-  pub fold_there : (t : DataType) → Passed bytes node t r → Linked bytes t r → (0 < kids t r → child_rows bytes r 0 ≤ 1048576) → (reads_nulls t && marked bytes r row) ≡ false
+  pub fold_there : (t : DataType) → Passed bytes node t r → Linked bytes t r → (0 < child_count (Some t) r → child_rows bytes r 0 ≤ 1048576) → (reads_nulls t && marked bytes r row) ≡ false
       → FoldThere t bytes r (r.start + row) (reach_from t bytes r lo) (region t bytes r lo n)
   fold_there (Dictionary w signed) p l small m =
       let one = exactly (length bytes) 1 r p.tabled in

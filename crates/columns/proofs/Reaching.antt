@@ -1,5 +1,5 @@
 -- What the rows of a range reach: within the range's region, and within the children.
-use Rattle.std.proofs.Common.{◌≡◌, ℕ, zero, suc, ◌+◌, ◌-◌, ◌*◌, ◌<◌, ◌≤◌, Bool, true, false, cond, not, ◌&&◌, ◌||◌, eqb, ltb, leb, List, length, sym, refl, ap, ◌∙◌, subst, mul-le-mul_left, mul-add, arith}
+use Rattle.std.proofs.Common.{◌≡◌, ℕ, zero, suc, ◌+◌, ◌-◌, ◌*◌, ◌<◌, ◌≤◌, Bool, true, false, cond, not, ◌&&◌, ◌||◌, eqb, ltb, leb, List, length, sym, refl, ap, ◌∙◌, subst, mul-le-mul_left, mul-add, arith, Some}
 use Rattle.std.proofs.lemmas.Bool.{cond-false, cond-true, eq-eqb, le-ltb, leb-false, lt-ltb, ltb-false, ltb-true, ne_eqb, or_parts, true≢false}
 use Rattle.layout.specs.declared.bytes.Width.{Width}
 use Rattle.layout.specs.declared.bytes.Width.TheVariants.{Four}
@@ -7,20 +7,20 @@ use Rattle.layout.specs.declared.record.Record.{Record}
 use Rattle.layout.specs.declared.data_type.DataType.{DataType}
 use Rattle.layout.specs.declared.data_type.DataType.TheVariants.{Dictionary, Struct, List as ListOf, ListView, Map, FixedSizeList, RunEnd}
 use Rattle.layout.specs.Bytes.{negative}
-use Rattle.layout.specs.Nodes.{child_rows, element, marked, reads_nulls}
+use Rattle.layout.specs.Nodes.{child_count, child_rows, element, marked, reads_nulls}
 use Rattle.layout.specs.Records.{elements}
 use Rattle.admission.specs.Rejections.{bad_key, bad_list_view, bad_offsets, bad_run_ends, end_before, last_offset}
 use Rattle.admission.proofs.Below.{none_at}
 use Rattle.admission.proofs.Sound.{Passed}
 use Rattle.image.specs.Read.{first_below, offset, run_of, span}
 use Rattle.image.proofs.Readable.{rises, step_up}
-use Rattle.columns.specs.Jobs.{kids, reach_from, reach_till, region}
+use Rattle.columns.specs.Jobs.{reach_from, reach_till, region}
 use Rattle.columns.proofs.Meaning.{Uses}
 use Rattle.columns.proofs.Typed.{exactly}
 
 -- the region of a node with children
-pub region_is : (t : DataType) (bytes : List ℕ) (r : Record) (lo n : ℕ) → 0 < kids t r → region t bytes r lo n ≡ reach_till t bytes r lo n - reach_from t bytes r lo
-region_is t bytes r lo n h = cond-false (eqb (kids t r) 0) 0 _ (ne_eqb (kids t r) 0 (λ e. omega arith))
+pub region_is : (t : DataType) (bytes : List ℕ) (r : Record) (lo n : ℕ) → 0 < child_count (Some t) r → region t bytes r lo n ≡ reach_till t bytes r lo n - reach_from t bytes r lo
+region_is t bytes r lo n h = cond-false (eqb (child_count (Some t) r) 0) 0 _ (ne_eqb (child_count (Some t) r) 0 (λ e. omega arith))
 
 cond_le : (b : Bool) (x y m : ℕ) → x ≤ m → y ≤ m → cond b x y ≤ m
 cond_le true x y m h k = h
@@ -104,11 +104,11 @@ module _ (bytes : List ℕ) (node : ℕ) (r : Record) (lo n : ℕ) (rows : lo + 
         let two' = subst (λ (x : ℕ). offset w bytes r x ≤ offset w bytes r (r.start + r.rows)) e two in omega arith,
       )
 
-  span_inside : (t : DataType) (limit : ℕ) → 0 < kids t r → reach_from t bytes r lo ≤ reach_till t bytes r lo n → reach_till t bytes r lo n ≤ limit → reach_from t bytes r lo + region t bytes r lo n ≤ limit
+  span_inside : (t : DataType) (limit : ℕ) → 0 < child_count (Some t) r → reach_from t bytes r lo ≤ reach_till t bytes r lo n → reach_till t bytes r lo n ≤ limit → reach_from t bytes r lo + region t bytes r lo n ≤ limit
   span_inside t limit some low high = omega (arith, region_is t bytes r lo n some)
 
   -- the rows of a range reach no further than a child's rows
-  pub reach_inside : (t : DataType) → Passed bytes node t r → (s : ℕ) → s < kids t r → reach_from t bytes r lo + region t bytes r lo n ≤ child_rows bytes r s
+  pub reach_inside : (t : DataType) → Passed bytes node t r → (s : ℕ) → s < child_count (Some t) r → reach_from t bytes r lo + region t bytes r lo n ≤ child_rows bytes r s
   reach_inside (Dictionary w signed) p s h =
       let one = exactly (length bytes) 1 r p.tabled in
       let z : s ≡ 0 = omega arith in
@@ -161,11 +161,11 @@ module _ (bytes : List ℕ) (node : ℕ) (r : Record) (lo n row : ℕ) (rows : l
   abbrev In : DataType → ℕ → Type 0
   In t q = (reach_from t bytes r lo ≤ q) × (q < reach_from t bytes r lo + region t bytes r lo n)
 
-  between : (t : DataType) (q : ℕ) → 0 < kids t r → reach_from t bytes r lo ≤ q → q < reach_till t bytes r lo n → In t q
+  between : (t : DataType) (q : ℕ) → 0 < child_count (Some t) r → reach_from t bytes r lo ≤ q → q < reach_till t bytes r lo n → In t q
   between t q some a b = (a, omega (arith, region_is t bytes r lo n some))
 
   -- the rows between a row's offset and the next
-  offset_between : (t : DataType) (w : Width) → 0 < kids t r → bad_offsets w bytes r ≡ false
+  offset_between : (t : DataType) (w : Width) → 0 < child_count (Some t) r → bad_offsets w bytes r ≡ false
       → reach_from t bytes r lo ≡ offset w bytes r (r.start + lo) → reach_till t bytes r lo n ≡ offset w bytes r (r.start + lo + n)
       → (k : ℕ) → k < span w bytes r (r.start + row) → In t (offset w bytes r (r.start + row) + k)
   offset_between t w some ordered f g k l =

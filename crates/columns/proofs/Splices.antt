@@ -3,13 +3,13 @@ use Rattle.std.proofs.Common.{◌≡◌, ℕ, ◌+◌, ◌-◌, ◌<◌, ◌≤�
 use borrow.Rule.Slice.PartMut.{put_mid}
 use Rattle.std.proofs.lemmas.List.{length-take, length-drop, length-append, drop-drop, get_or-take, get_or-drop, length-take-le, get_or_append_left, get_or-append_right, ext_get_or}
 use Rattle.std.proofs.lemmas.List.FromFn.{length-map-range_with_len, get_or-map-range_with_len}
-use Rattle.columns.specs.Jobs.{splice, part, each}
+use Rattle.columns.specs.Jobs.{splice, words_at, each}
 
-pub length-part : (at n : ℕ) (w : List ℕ) → at + n ≤ length w → length (part at n w) ≡ n
-length-part at n w h = simp (length-take, length-drop) (omega arith)
+pub length-words_at : (at n : ℕ) (w : List ℕ) → at + n ≤ length w → length (words_at at n w) ≡ n
+length-words_at at n w h = simp (length-take, length-drop) (omega arith)
 
-pub get_or-part : (at n : ℕ) (w : List ℕ) (k : ℕ) → k < n → get_or (part at n w) k 0 ≡ get_or w (at + k) 0
-get_or-part at n w k h = get_or-take n (drop at w) k 0 h ∙ get_or-drop at w k 0
+pub get_or-words_at : (at n : ℕ) (w : List ℕ) (k : ℕ) → k < n → get_or (words_at at n w) k 0 ≡ get_or w (at + k) 0
+get_or-words_at at n w k h = get_or-take n (drop at w) k 0 h ∙ get_or-drop at w k 0
 
 pub length-splice : (at n : ℕ) (w ys : List ℕ) → at + n ≤ length w → length ys ≡ n → length (splice at n w ys) ≡ length w
 length-splice at n w ys h e = simp (length-append, length-take, length-drop) (omega arith)
@@ -35,11 +35,11 @@ get_or-splice_above at n w ys j h e l =
 pub length-lent : (at n : ℕ) (w : List ℕ) → at + n ≤ length w → length (take (at + n - at) (drop at w)) ≡ n
 length-lent at n w h = simp (length-take, length-drop) (omega arith)
 
-pub lent_part : (at n : ℕ) (w : List ℕ) → take (at + n - at) (drop at w) ≡ part at n w
-lent_part at n w = let k : at + n - at ≡ n = omega arith in rw k
+pub lent_words : (at n : ℕ) (w : List ℕ) → take (at + n - at) (drop at w) ≡ words_at at n w
+lent_words at n w = let k : at + n - at ≡ n = omega arith in rw k
 
 pub get_or-lent : (at n : ℕ) (w : List ℕ) (k : ℕ) → k < n → get_or (take (at + n - at) (drop at w)) k 0 ≡ get_or w (at + k) 0
-get_or-lent at n w k h = ap (λ (xs : List ℕ). get_or xs k 0) (lent_part at n w) ∙ get_or-part at n w k h
+get_or-lent at n w k h = ap (λ (xs : List ℕ). get_or xs k 0) (lent_words at n w) ∙ get_or-words_at at n w k h
 
 -- words below a place that stayed
 pub take_same : (at : ℕ) (w w' : List ℕ) → length w ≡ length w' → ((j : ℕ) → j < at → get_or w j 0 ≡ get_or w' j 0) → take at w ≡ take at w'
@@ -49,7 +49,7 @@ take_same at w w' same below =
     (λ j l. let m : j < at = omega (arith, simp length-take at l) in get_or-take at w j 0 m ∙ below j m ∙ sym (get_or-take at w' j 0 m))
 
 -- what `&mut w[at..at + n]` leaves
-pub put_mid-splice : (at n : ℕ) (w ys : List ℕ) (F : List ℕ → List ℕ) → ys ≡ F (take (at + n - at) (drop at w)) → put_mid at (at + n - at) w ys ≡ splice at n w (F (part at n w))
+pub put_mid-splice : (at n : ℕ) (w ys : List ℕ) (F : List ℕ → List ℕ) → ys ≡ F (take (at + n - at) (drop at w)) → put_mid at (at + n - at) w ys ≡ splice at n w (F (words_at at n w))
 put_mid-splice at n w ys F e =
     let k : at + n - at ≡ n = omega arith in
     ap (λ (x : List ℕ). put_mid at (at + n - at) w x) e ∙ rw (k, drop-drop)

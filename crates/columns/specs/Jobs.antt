@@ -70,17 +70,13 @@ or_null (Some t) = t
 abbrev pub type_of : List ℕ → ℕ → DataType
 type_of bytes node = or_null (data_type (record_at bytes node))
 
--- how many children a node of a type has
-abbrev pub kids : DataType → Record → ℕ
-kids t r = listed (table t) r.cnt
-
 -- how many words the child rows take that are reached, none without children
 abbrev pub region : DataType → List ℕ → Record → ℕ → ℕ → ℕ
-region t bytes r lo n = cond (kids t r == 0) 0 (reach_till t bytes r lo n - reach_from t bytes r lo)
+region t bytes r lo n = cond (child_count (Some t) r == 0) 0 (reach_till t bytes r lo n - reach_from t bytes r lo)
 
 -- the n words from a place on
-abbrev pub part : ℕ → ℕ → List ℕ → List ℕ
-part at n words = take n (drop at words)
+abbrev pub words_at : ℕ → ℕ → List ℕ → List ℕ
+words_at at n words = take n (drop at words)
 
 -- the words with others in place of the n from a place on
 abbrev pub splice : ℕ → ℕ → List ℕ → List ℕ → List ℕ
@@ -117,7 +113,7 @@ module _ (ONE : List Write → ℕ) (SEED : ℕ → List Write → ℕ) (bytes :
   unfoldable pub ended : DataType → Record → Job → List ℕ → List ℕ
   ended t r j words =
       splice j.at j.n words
-      (each (λ i. row_by t r (standing (part (j.at + j.n) (region t bytes r j.lo j.n) words) (reach_from t bytes r j.lo)) j.first (slice_index words (j.at + i)) (j.lo + i)) j.n)
+      (each (λ i. row_by t r (standing (words_at (j.at + j.n) (region t bytes r j.lo j.n) words) (reach_from t bytes r j.lo)) j.first (slice_index words (j.at + i)) (j.lo + i)) j.n)
 
   -- a job that can be done with so many words of work
   pub record Fine (len : ℕ) (j : Job) : Type 0 where
@@ -136,7 +132,7 @@ module _ (ONE : List Write → ℕ) (SEED : ℕ → List Write → ℕ) (bytes :
         job = λ f. f.job;
         stage = λ f. f.stage;
         none = no_frame;
-        kids = λ j. kids (type_of bytes j.node) (record_at bytes j.node);
+        children = λ j. child_count (Some (type_of bytes j.node)) (record_at bytes j.node);
         child = λ j s. child_at bytes (type_of bytes j.node) (record_at bytes j.node) j s;
         before = λ j s w. opened (j.at + j.n) (region (type_of bytes j.node) bytes (record_at bytes j.node) j.lo j.n) s w;
         after = λ j w. ended (type_of bytes j.node) (record_at bytes j.node) j w;

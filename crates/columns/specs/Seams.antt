@@ -1,16 +1,16 @@
 -- What the walk may count on of the rows of a node.
-use Rattle.std.specs.Prelude.{◌≡◌, ℕ, ◌+◌, ◌-◌, ◌*◌, ◌^◌, ◌<◌, ◌≤◌, false, List, length, slice_index, ◌==◌}
+use Rattle.std.specs.Prelude.{◌≡◌, ℕ, ◌+◌, ◌-◌, ◌*◌, ◌^◌, ◌<◌, ◌≤◌, false, List, length, slice_index, ◌==◌, Some}
 use Rattle.layout.specs.declared.bytes.Width.{Width}
 use Rattle.layout.specs.declared.bytes.Width.TheVariants.{Four}
 use Rattle.layout.specs.declared.record.Record.{Record}
 use Rattle.layout.specs.declared.data_type.DataType.{DataType}
 use Rattle.layout.specs.declared.data_type.DataType.TheVariants.{Dictionary, Struct, List as ListOf, ListView, Map, FixedSizeList, RunEnd}
 use Rattle.layout.specs.Bytes.{wide}
-use Rattle.layout.specs.Nodes.{ChildThere, child, child_rows, element}
+use Rattle.layout.specs.Nodes.{child, child_count, child_rows, ChildThere, element}
 use Rattle.admission.specs.Rejections.{bad_run_ends}
 use Rattle.admission.specs.Seams.{ElementThere}
 use Rattle.image.specs.Read.{offset, run_of, span}
-use Rattle.columns.specs.Jobs.{kids, need}
+use Rattle.columns.specs.Jobs.{need}
 use Rattle.columns.specs.declared.node.Node.{Node}
 
 -- `count` child rows from one on have their numbers in a region of so many words, the first for the child row `from`
@@ -61,10 +61,10 @@ FoldThere t bytes r at from len = Unit {0}
 
 -- each child of a node has `size` rows from one on, and so many words of work have room for a region of that size at a place and for each child's need behind it
 pub record ChildrenFit (n : Node) (from size at work : ℕ) : Type 0 where
-  pub rows : (s : ℕ) → s < kids n.t n.column.record → from + size ≤ child_rows n.column.bytes.now n.column.record s
-  pub room : (s : ℕ) → s < kids n.t n.column.record → at + size + need n.column.bytes.now (child n.column.bytes.now n.column.record s) ≤ work
+  pub rows : (s : ℕ) → s < child_count (Some n.t) n.column.record → from + size ≤ child_rows n.column.bytes.now n.column.record s
+  pub room : (s : ℕ) → s < child_count (Some n.t) n.column.record → at + size + need n.column.bytes.now (child n.column.bytes.now n.column.record s) ≤ work
 
 -- a table has a place for each child of a node, and no need above 2^24, which is 16 levels of 1,048,576 rows
 abbrev pub NeedsThere : Node → List ℕ → Type 0
 NeedsThere n needs =
-    (k : ℕ) → k < kids n.t n.column.record → (child n.column.bytes.now n.column.record k < 256) × (slice_index needs (child n.column.bytes.now n.column.record k) ≤ 16777216)
+    (k : ℕ) → k < child_count (Some n.t) n.column.record → (child n.column.bytes.now n.column.record k < 256) × (slice_index needs (child n.column.bytes.now n.column.record k) ≤ 16777216)

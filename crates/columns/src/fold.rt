@@ -2,12 +2,11 @@
 // its name, for one element that is not marked null. What each takes differs, so the parameters go on one by one.
 ghost use Rattle.std.specs.Prelude.{◌≡◌, ◌+◌, ◌*◌, ◌^◌, ◌<◌, false, cond, length, if◌then◌else◌, ◌==◌, nat_eq};
 ghost use Rattle.admission.specs.Seams.{ElementThere};
-ghost use Rattle.columns.specs.Jobs.{kids};
 ghost use Rattle.columns.specs.Region.{ChildRow, Holds, combined_in, key_of, number_in, referred_in};
 ghost use Rattle.columns.specs.Seams.{OffsetsThere};
 ghost use Rattle.hash_state.specs.Combine.{C};
 ghost use Rattle.image.specs.Read.{offset, run_of, span};
-ghost use Rattle.layout.specs.Nodes.{child, child_rows, element};
+ghost use Rattle.layout.specs.Nodes.{child, child_count, child_rows, element};
 ghost use Rattle.layout.specs.declared.bytes.Width.TheVariants.{Four};
 ghost use Rattle.row_rule.specs.Number.{combined};
 
@@ -109,7 +108,7 @@ pub(crate) struct References<'a> {
 
 impl<'a> References<'a> {
     pub(crate) fn of(node: &Node<'a>) -> References<'a>
-        requires { 0 < kids node.now.t node.now.column.record }
+        requires { 0 < child_count (Some node.now.t) node.now.column.record }
         ensures { result.column ≡ node.now.column }
     {
         let column = node.column;

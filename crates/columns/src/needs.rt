@@ -1,9 +1,10 @@
 // How many words of work a node needs.
 ghost use Rattle.std.specs.Prelude.{◌≡◌, ◌<◌};
 ghost use Rattle.columns.specs.Column.{node_need};
-ghost use Rattle.columns.specs.Jobs.{kids, most, need, needs_of};
+ghost use Rattle.columns.specs.Jobs.{most, need, needs_of};
 ghost use Rattle.columns.specs.Seams.{NeedsThere};
 ghost use Rattle.layout.specs.Records.{nodes};
+ghost use Rattle.layout.specs.Nodes.{child_count};
 
 use crate::node::Node;
 use image::place::Image;
@@ -11,10 +12,10 @@ use image::place::Image;
 // The most of a child's rows and its need, as the table has them.
 fn need_of(node: &Node<'_>, needs: &[u32; 256]) -> u32
     requires { NeedsThere node.now needs.now }
-    ensures { result ≡ most (needs_of node.now.column.bytes.now node.now.column.record needs.now) (kids node.now.t node.now.column.record) }
+    ensures { result ≡ most (needs_of node.now.column.bytes.now node.now.column.record needs.now) (child_count (Some node.now.t) node.now.column.record) }
 {
     let mut most = 0u32;
-    for index in 0..node.kids() {
+    for index in 0..node.child_count() {
         let child = node.child(index);
         most = most.max(child.column.record.rows + needs[child.number as usize]);
     }

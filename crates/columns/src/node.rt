@@ -1,8 +1,8 @@
 // A node of an admitted image, as the walk sees it.
 ghost use Rattle.std.specs.Prelude.{◌≡◌, ◌<◌, ◌&&◌, true};
 ghost use Rattle.admission.specs.FirstFault.{sound};
-ghost use Rattle.columns.specs.Jobs.{kids, or_null, type_of};
-ghost use Rattle.layout.specs.Nodes.{child, marked, reads_nulls};
+ghost use Rattle.columns.specs.Jobs.{or_null, type_of};
+ghost use Rattle.layout.specs.Nodes.{child, child_count, marked, reads_nulls};
 ghost use Rattle.layout.specs.Records.{nodes, record_at};
 ghost use Rattle.layout.specs.Types.{data_type};
 ghost use Rattle.leaves.specs.Rows.{is_leaf};
@@ -63,7 +63,7 @@ impl<'a> Node<'a> {
     }
 
     pub(crate) fn child(&self, index: u32) -> Node<'a>
-        requires { index < kids self.now.t self.now.column.record }
+        requires { index < child_count (Some self.now.t) self.now.column.record }
         ensures bytes { result.column.bytes.now ≡ self.now.column.bytes.now }
         ensures number { result.number ≡ child self.now.column.bytes.now self.now.column.record index }
     {
@@ -71,8 +71,8 @@ impl<'a> Node<'a> {
     }
 
     // How many children it has.
-    pub(crate) fn kids(&self) -> u32
-        ensures { result ≡ kids self.now.t self.now.column.record }
+    pub(crate) fn child_count(&self) -> u32
+        ensures { result ≡ child_count (Some self.now.t) self.now.column.record }
     {
         self.t.table().listed(self.column.record.cnt)
     }

@@ -1,6 +1,7 @@
 // The walk over a node's descendants, as a loop over 16 stacked frames.
 ghost use Rattle.std.specs.Prelude.{◌≡◌, ◌+◌, ◌<◌, ◌≤◌, length};
-ghost use Rattle.columns.specs.Jobs.{child_job, child_at, ended, kids, opened, plan, region};
+ghost use Rattle.layout.specs.Nodes.{child_count};
+ghost use Rattle.columns.specs.Jobs.{child_job, child_at, ended, opened, plan, region};
 ghost use Rattle.columns.specs.Machine.{Fits, complete};
 
 use crate::job::{Frame, Job};
@@ -41,7 +42,7 @@ fn leave<S: HashState>(node: &Node<'_>, job: Job, state: &S, work: &mut [u64])
 
 // The job of a child over the words at a place, which are cleared before child 0.
 pub(crate) fn enter(node: &Node<'_>, stage: u32, rows: Span, at: usize, work: &mut [u64]) -> Job
-    requires child { stage < kids node.now.t node.now.column.record }
+    requires child { stage < child_count (Some node.now.t) node.now.column.record }
     requires room { at + rows.size ≤ length work.old }
     ensures job { result ≡ child_job node.now.column.bytes.now node.now.column.record stage rows.from rows.size at }
     ensures words { work.new ≡ opened at rows.size stage work.old }
@@ -61,7 +62,7 @@ pub(crate) fn enter(node: &Node<'_>, stage: u32, rows: Span, at: usize, work: &m
 fn enter_behind(node: &Node<'_>, job: Job, stage: u32, work: &mut [u64]) -> Job
     requires rows { job.lo + job.n ≤ node.now.column.record.rows }
     requires room { job.at + job.n + region node.now.t node.now.column.bytes.now node.now.column.record job.lo job.n ≤ length work.old }
-    requires child { stage < kids node.now.t node.now.column.record }
+    requires child { stage < child_count (Some node.now.t) node.now.column.record }
     ensures job { result ≡ child_at node.now.column.bytes.now node.now.t node.now.column.record job stage }
     ensures words { work.new ≡ opened (job.at + job.n) (region node.now.t node.now.column.bytes.now node.now.column.record job.lo job.n) stage work.old }
 {
@@ -83,7 +84,7 @@ pub(crate) fn walk<S: HashState>(node: &Node<'_>, root: Job, state: &S, work: &m
     let mut depth: usize = 0;
     loop {
         let here = node.other(top.job.node);
-        if top.stage < here.kids() {
+        if top.stage < here.child_count() {
             let job = enter_behind(&here, top.job, top.stage, work);
             top.stage += 1;
             frames[depth] = top;

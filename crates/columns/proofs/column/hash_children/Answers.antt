@@ -1,9 +1,9 @@
-use Rattle.std.proofs.Common.{◌≡◌, ℕ, ◌+◌, ◌<◌, List, length, sym, subst, ap₂, ◌∙◌, arith}
-use Rattle.layout.specs.Nodes.{child}
+use Rattle.std.proofs.Common.{◌≡◌, ℕ, ◌+◌, ◌<◌, List, length, sym, subst, ap₂, ◌∙◌, arith, Some}
+use Rattle.layout.specs.Nodes.{child, child_count}
 use Rattle.image.specs.Read.{slot_at}
 use Rattle.row_rule.specs.Number.{number_of}
 use Rattle.columns.specs.Fold.{entry, is_first, through}
-use Rattle.columns.specs.Jobs.{Did, kids, opened, plan}
+use Rattle.columns.specs.Jobs.{Did, opened, plan}
 use Rattle.columns.specs.Machine.{Fits, complete}
 use Rattle.columns.specs.declared.job.Job.{Job}
 use Rattle.columns.proofs.Children.{child_did, child_fits, children_more, children_none, job_of}
@@ -14,14 +14,14 @@ pub loop-stage-init : goal.loop-stage-init
 loop-stage-init g c = children_none _ _ _ _
 
 pub enter-job-requires-clause-room : goal.enter-job-requires-clause-room
-enter-job-requires-clause-room g c = omega (arith, c.requires.room c.loop-stage.stage (omega (arith, c.kids-stage-end.ensures)), c.loop-stage.auto.work)
+enter-job-requires-clause-room g c = omega (arith, c.requires.room c.loop-stage.stage (omega (arith, c.child_count-stage-end.ensures)), c.loop-stage.auto.work)
 
 pub walk-requires : goal.walk-requires
 walk-requires g c =
     let n = c.args.node.now in
     let B = n.column.bytes.now in
     let s : ℕ = c.loop-stage.stage in
-    let below : s < kids n.t n.column.record = omega (arith, c.kids-stage-end.ensures) in
+    let below : s < child_count (Some n.t) n.column.record = omega (arith, c.child_count-stage-end.ensures) in
     let k : ℕ = child B n.column.record s in
     let ONE = g.S.BuildHasher.one c.args.state.now in
     let SEED = g.S.HashState.seeded c.args.state.now in
@@ -35,7 +35,7 @@ loop-stage-preserved g c =
     let B = n.column.bytes.now in
     let s : ℕ = c.loop-stage.stage in
     let w : List ℕ = c.loop-stage.work in
-    let below : s < kids n.t n.column.record = omega (arith, c.kids-stage-end.ensures) in
+    let below : s < child_count (Some n.t) n.column.record = omega (arith, c.child_count-stage-end.ensures) in
     let k : ℕ = child B n.column.record s in
     let at : ℕ = c.args.at in
     let from : ℕ = c.args.rows.from in
@@ -52,7 +52,7 @@ loop-stage-preserved g c =
 pub returns : goal.returns
 returns g c =
     let n = c.args.node.now in
-    let end : c.loop-stage.stage ≡ kids n.t n.column.record = omega (arith, c.kids-stage-end.ensures) in
+    let end : c.loop-stage.stage ≡ child_count (Some n.t) n.column.record = omega (arith, c.child_count-stage-end.ensures) in
     subst (λ (m : ℕ). Did c.args.at c.args.rows.size
     (λ i x. through (λ s y. number_of (g.S.BuildHasher.one c.args.state.now) (g.S.HashState.seeded c.args.state.now) (is_first s) (entry s y) (slot_at n.column.bytes.now (child n.column.bytes.now n.column.record s) (c.args.rows.from + i))) m 0 x)
     c.args.work.now c.loop-stage.work) end c.loop-stage.invariant

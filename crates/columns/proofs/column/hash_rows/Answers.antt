@@ -1,10 +1,10 @@
-use Rattle.std.proofs.Common.{ℕ, ◌+◌, ◌-◌, List, get_or, take, drop, ap, ◌∙◌, arith}
-use Rattle.layout.specs.Nodes.{child}
+use Rattle.std.proofs.Common.{ℕ, ◌+◌, ◌-◌, List, get_or, take, drop, ap, ◌∙◌, arith, Some}
+use Rattle.layout.specs.Nodes.{child, child_count}
 use Rattle.image.specs.Read.{slot_at}
 use Rattle.row_rule.specs.Number.{number_of}
 use Rattle.leaves.specs.Rows.{by_place, row_of}
 use Rattle.columns.specs.Fold.{entry, is_first, through}
-use Rattle.columns.specs.Jobs.{kids, row_by, standing}
+use Rattle.columns.specs.Jobs.{row_by, standing}
 use Rattle.columns.proofs.Children.{node_number}
 use Rattle.columns.proofs.Nodes.{node_inside, node_room}
 use Rattle.columns.proofs.Meeting.{by_place_same}
@@ -55,6 +55,6 @@ returns g c =
           (λ x h.
           get_or-lent at size w' x (omega (arith, c.reach-reach.ensures.size))
           ∙ did.rows x (omega (arith, c.reach-reach.ensures.size))
-          ∙ ap (λ (from : ℕ). through (λ s z. number_of ONE SEED (is_first s) (entry s z) (slot_at n.column.bytes.now (child n.column.bytes.now n.column.record s) (from + x))) (kids n.t n.column.record) 0 (get_or w (at + x) 0)) c.reach-reach.ensures.from));
+          ∙ ap (λ (from : ℕ). through (λ s z. number_of ONE SEED (is_first s) (entry s z) (slot_at n.column.bytes.now (child n.column.bytes.now n.column.record s) (from + x))) (child_count (Some n.t) n.column.record) 0 (get_or w (at + x) 0)) c.reach-reach.ensures.from));
       work = below_stay at w w' did.same did.below;
     }

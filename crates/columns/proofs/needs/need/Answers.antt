@@ -1,10 +1,10 @@
-use Rattle.std.proofs.Common.{◌≡◌, ℕ, ◌-◌, ◌<◌, ◌≤◌, List, length, get_or, set, sym, ap, ◌∙◌, inl, inr, arith, length-set, get_or-set_other, get_or-set_same}
+use Rattle.std.proofs.Common.{◌≡◌, ℕ, ◌-◌, ◌<◌, ◌≤◌, List, length, get_or, set, sym, ap, ◌∙◌, inl, inr, arith, length-set, get_or-set_other, get_or-set_same, Some}
 use Rattle.std.proofs.lemmas.Bool.{cases_eq}
-use Rattle.layout.specs.Nodes.{child, table}
+use Rattle.layout.specs.Nodes.{child, child_count, table}
 use Rattle.layout.specs.Records.{nodes, record_at}
 use Rattle.admission.proofs.Links.{child_behind}
 use Rattle.admission.proofs.Sound.{sound_few}
-use Rattle.columns.specs.Jobs.{kids, most, need as need_of_node, needs_of, type_of}
+use Rattle.columns.specs.Jobs.{most, need as need_of_node, needs_of, type_of}
 use Rattle.columns.proofs.Nodes.{at_node, of_node}
 use Rattle.columns.proofs.Needed.{need_by, need_small}
 use Rattle.columns.proofs.Typed.{passed}
@@ -18,7 +18,7 @@ need_of-requires c =
     let at : ℕ = c.loop-at.at - 1 in
     let there : at < nodes B = omega (arith, c.node_count-at.ensures, c.loop-at.auto.at) in
     let p = passed B sound at there in
-    of_node (λ b t r. (i : ℕ) → i < kids t r → (child b r i < 256) × (get_or c.loop-at.needs (child b r i) 0 ≤ 16777216))
+    of_node (λ b t r. (i : ℕ) → i < child_count (Some t) r → (child b r i < 256) × (get_or c.loop-at.needs (child b r i) 0 ≤ 16777216))
     n B at c.of-node.ensures.bytes c.of-node.ensures.number
     (λ i l.
     let behind = child_behind B at (record_at B at) (table (type_of B at)) p.tabled p.lined i l in (
@@ -37,7 +37,7 @@ loop-at-preserved c =
     let p = passed B sound at there in
     let made : c.need_of.result ≡ need_of_node B at =
     c.need_of.ensures
-    ∙ at_node (λ b t r. most (needs_of b r needs) (kids t r)) n B at c.of-node.ensures.bytes c.of-node.ensures.number
+    ∙ at_node (λ b t r. most (needs_of b r needs) (child_count (Some t) r)) n B at c.of-node.ensures.bytes c.of-node.ensures.number
     ∙ need_by B sound at needs there
     (λ i l.
     let behind = child_behind B at (record_at B at) (table (type_of B at)) p.tabled p.lined i l in

@@ -1,8 +1,8 @@
-use Rattle.std.proofs.Common.{◌≡◌, ℕ, ◌+◌, max, List, get_or, ap, ◌∙◌, ap₂, add-one, arith}
+use Rattle.std.proofs.Common.{◌≡◌, ℕ, ◌+◌, max, List, get_or, ap, ◌∙◌, ap₂, add-one, arith, Some}
 use Rattle.layout.specs.declared.record.Record.{Record}
-use Rattle.layout.specs.Nodes.{child, child_rows}
+use Rattle.layout.specs.Nodes.{child, child_count, child_rows}
 use Rattle.layout.specs.Records.{record_at}
-use Rattle.columns.specs.Jobs.{kids, most, needs_of}
+use Rattle.columns.specs.Jobs.{most, needs_of}
 use Rattle.columns.proofs.Nodes.{node_short}
 use Rattle.columns.proofs.needs.need_of.Goals as goal
 
@@ -34,5 +34,5 @@ loop-index-preserved c =
 pub returns : goal.returns
 returns c =
     let n = c.args.node.now in
-    let end : c.loop-index.index ≡ kids n.t n.column.record = omega (arith, c.kids-index-end.ensures) in
+    let end : c.loop-index.index ≡ child_count (Some n.t) n.column.record = omega (arith, c.child_count-index-end.ensures) in
     c.loop-index.invariant ∙ ap (most (needs_of n.column.bytes.now n.column.record c.args.needs.now)) end

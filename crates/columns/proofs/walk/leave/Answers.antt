@@ -1,5 +1,5 @@
 use Rattle.std.proofs.Common.{ℕ, ◌+◌, List, get_or, refl, ap, ◌∙◌, ap₂, arith}
-use Rattle.columns.specs.Jobs.{each, ended, part, reach_from, region, row_by, splice, standing}
+use Rattle.columns.specs.Jobs.{each, ended, words_at, reach_from, region, row_by, splice, standing}
 use Rattle.columns.proofs.Meeting.{split_splice}
 use Rattle.columns.proofs.Nodes.{node_short}
 use Rattle.columns.proofs.walk.leave.Goals as goal
@@ -26,6 +26,6 @@ returns g c =
     let below = c.split_at_mut-rest.ensures in
     let own = c.split_at_mut-words.ensures in
     split_splice j.at j.n c.reach-reach.result.size w _ _ _ _ c.hash.new.words (row c.reach-reach.result.from) (omega (arith, c.requires.room)) below.front below.back own.front own.back c.hash.ensures
-    ∙ ap₂ (λ (from size : ℕ). splice j.at j.n w (each (λ i. row from (part (j.at + j.n) size w) i (get_or w (j.at + i) 0)) j.n))
+    ∙ ap₂ (λ (from size : ℕ). splice j.at j.n w (each (λ i. row from (words_at (j.at + j.n) size w) i (get_or w (j.at + i) 0)) j.n))
     (c.reach-reach.ensures.from ∙ ap (reach_from n.t B r) c.rows-span.ensures.from)
     (c.reach-reach.ensures.size ∙ ap₂ (region n.t B r) c.rows-span.ensures.from c.rows-span.ensures.size)
