@@ -1,9 +1,9 @@
 -- What words become that each meet a row of a node.
-use Rattle.std.specs.Prelude.{ℕ, List}
+use Rattle.std.specs.Prelude.{ℕ, List, Some}
 use Rattle.hash_state.specs.Writes.{Write}
 use Rattle.image.specs.Read.{slot_at, typed_slot}
 use Rattle.image.specs.Slot.{null}
-use Rattle.layout.specs.Nodes.{child}
+use Rattle.layout.specs.Nodes.{child, child_count}
 use Rattle.leaves.specs.Rows.{by_place, row_of}
 use Rattle.row_rule.specs.Number.{number_of}
 use Rattle.columns.specs.Fold.{entry, is_first, row_number, through}
@@ -41,6 +41,10 @@ module _ (ONE : List Write → ℕ) (SEED : ℕ → List Write → ℕ) where
       by_place (λ j e. row_by ONE SEED f.met.node.column.bytes.now f.met.node.t f.met.node.column.record (number_in f.region) f.met.first e (row_met f.met j)) 0 words
 
   -- what a word becomes by the first m children of a node at a row, one after the other
-  abbrev pub through_children : Node → ℕ → ℕ → ℕ → ℕ
-  through_children n m row x =
+  abbrev pub through_some : Node → ℕ → ℕ → ℕ → ℕ
+  through_some n m row x =
       through (λ s y. number_of ONE SEED (is_first s) (entry s y) (slot_at n.column.bytes.now (child n.column.bytes.now n.column.record s) row)) m 0 x
+
+  -- what it becomes by all of them
+  abbrev pub through_children : Node → ℕ → ℕ → ℕ
+  through_children n row x = through_some n (child_count (Some n.t) n.column.record) row x

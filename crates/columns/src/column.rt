@@ -1,6 +1,5 @@
 // The number of every row of a column, in the caller's entries.
 ghost use Rattle.std.specs.Prelude.{◌≡◌, ◌+◌, ◌≤◌, length};
-ghost use Rattle.layout.specs.Nodes.{child_count};
 ghost use Rattle.columns.specs.Column.{Hashable, column_words, met_rows};
 ghost use Rattle.columns.specs.Jobs.{Did, need};
 ghost use Rattle.columns.specs.Open.{OthersStay, is_open};
@@ -19,7 +18,7 @@ use leaves::Rows;
 // All children in turn, each over the same region at `at`.
 fn hash_children<S: HashState>(node: &Node<'_>, rows: Span, at: usize, state: &S, work: &mut [u64])
     requires { ChildrenFit node.now rows.from rows.size at (length work.old) }
-    ensures { Did at rows.size (λ i x. through_children (S.BuildHasher.one state.now) (S.HashState.seeded state.now) node.now (child_count (Some node.now.t) node.now.column.record) (rows.from + i) x) work.old work.new }
+    ensures { Did at rows.size (λ i x. through_children (S.BuildHasher.one state.now) (S.HashState.seeded state.now) node.now (rows.from + i) x) work.old work.new }
 {
     for stage in 0..node.child_count() {
         let job = enter(node, stage, rows, at, work);

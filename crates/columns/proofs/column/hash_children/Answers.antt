@@ -2,9 +2,10 @@ use Rattle.std.proofs.Common.{◌≡◌, ℕ, ◌+◌, ◌<◌, List, length, sy
 use Rattle.layout.specs.Nodes.{child, child_count}
 use Rattle.image.specs.Read.{slot_at}
 use Rattle.row_rule.specs.Number.{number_of}
-use Rattle.columns.specs.Fold.{entry, is_first, through}
+use Rattle.columns.specs.Fold.{entry, is_first}
 use Rattle.columns.specs.Jobs.{Did, opened, plan}
 use Rattle.columns.specs.Machine.{Fits, complete}
+use Rattle.columns.specs.Words.{through_some}
 use Rattle.columns.specs.declared.job.Job.{Job}
 use Rattle.columns.proofs.Children.{child_did, child_fits, children_more, children_none, job_of}
 use Rattle.columns.proofs.Nodes.{node_child}
@@ -54,5 +55,5 @@ returns g c =
     let n = c.args.node.now in
     let end : c.loop-stage.stage ≡ child_count (Some n.t) n.column.record = omega (arith, c.child_count-stage-end.ensures) in
     subst (λ (m : ℕ). Did c.args.at c.args.rows.size
-    (λ i x. through (λ s y. number_of (g.S.BuildHasher.one c.args.state.now) (g.S.HashState.seeded c.args.state.now) (is_first s) (entry s y) (slot_at n.column.bytes.now (child n.column.bytes.now n.column.record s) (c.args.rows.from + i))) m 0 x)
+    (λ i x. through_some (g.S.BuildHasher.one c.args.state.now) (g.S.HashState.seeded c.args.state.now) n m (c.args.rows.from + i) x)
     c.args.work.now c.loop-stage.work) end c.loop-stage.invariant

@@ -1,10 +1,8 @@
 use Rattle.std.proofs.Common.{ℕ, ◌+◌, ◌-◌, List, get_or, take, drop, ap, ◌∙◌, arith, Some}
 use Rattle.layout.specs.Nodes.{child, child_count}
-use Rattle.image.specs.Read.{slot_at}
-use Rattle.row_rule.specs.Number.{number_of}
-use Rattle.leaves.specs.Rows.{by_place, row_of}
-use Rattle.columns.specs.Fold.{entry, is_first, through}
+use Rattle.leaves.specs.Rows.{by_place}
 use Rattle.columns.specs.Jobs.{row_by, standing}
+use Rattle.columns.specs.Words.{row_met, through_children}
 use Rattle.columns.proofs.Children.{node_number}
 use Rattle.columns.proofs.Nodes.{node_inside, node_room}
 use Rattle.columns.proofs.Meeting.{by_place_same}
@@ -47,14 +45,14 @@ returns g c =
     record {
       words =
           c.hash.ensures
-          ∙ ap (λ (from : ℕ). by_place (λ j e. row_by ONE SEED n.column.bytes.now n.t n.column.record (standing numbers from) m.first e (row_of m.rows.lo m.rows.list j)) 0 c.args.entries.now) c.reach-reach.ensures.from
+          ∙ ap (λ (from : ℕ). by_place (λ j e. row_by ONE SEED n.column.bytes.now n.t n.column.record (standing numbers from) m.first e (row_met m j)) 0 c.args.entries.now) c.reach-reach.ensures.from
           ∙ by_place_same _ _ c.args.entries.now 0
           (λ j e l.
           let met = c.span-span.ensures.met j (omega (arith, c.requires.words)) in
-          node_number ONE SEED n lo count (row_of m.rows.lo m.rows.list j) numbers (λ x. get_or w (at + x) 0) m.first e rows met.0 met.1
+          node_number ONE SEED n lo count (row_met m j) numbers (λ x. get_or w (at + x) 0) m.first e rows met.0 met.1
           (λ x h.
           get_or-lent at size w' x (omega (arith, c.reach-reach.ensures.size))
           ∙ did.rows x (omega (arith, c.reach-reach.ensures.size))
-          ∙ ap (λ (from : ℕ). through (λ s z. number_of ONE SEED (is_first s) (entry s z) (slot_at n.column.bytes.now (child n.column.bytes.now n.column.record s) (from + x))) (child_count (Some n.t) n.column.record) 0 (get_or w (at + x) 0)) c.reach-reach.ensures.from));
+          ∙ ap (λ (from : ℕ). through_children ONE SEED n (from + x) (get_or w (at + x) 0)) c.reach-reach.ensures.from));
       work = below_stay at w w' did.same did.below;
     }

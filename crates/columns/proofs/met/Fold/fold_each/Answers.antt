@@ -1,16 +1,12 @@
 use Rattle.std.proofs.Common.{ℕ, ◌<◌, length, get_or, ap, ◌∙◌, arith}
 use Rattle.leaves.proofs.Steps.{made_written}
-use Rattle.columns.specs.Fold.{row_number}
-use Rattle.columns.specs.Jobs.{standing}
+use Rattle.columns.specs.Words.{folded_number}
 use Rattle.columns.proofs.met.Fold.fold_each.Goals as goal
 
 pub loop-j-preserved : goal.loop-j-preserved
 loop-j-preserved g c =
-    let s = c.args.self in
-    let n = s.met.node in
     let h : c.loop-j.j < length c.loop-j.words = omega (arith, c.loop-j.auto.words) in
     let m : c.loop-j.j < length c.args.words.now = omega (arith, c.loop-j.auto.words) in
     made_written _ c.loop-j.words c.loop-j.j h _
-    (c.number.ensures
-    ∙ ap (λ (row : ℕ). row_number n.t n.column.bytes.now n.column.record (standing s.region.numbers.now s.region.from) s.met.first (get_or c.loop-j.words c.loop-j.j 0) row) (c.requires.rows _ _ m c.row_at.ensures))
+    (c.number.ensures ∙ ap (folded_number c.args.self (get_or c.loop-j.words c.loop-j.j 0)) (c.requires.rows _ _ m c.row_at.ensures))
     ∙ c.loop-j.invariant

@@ -1,9 +1,10 @@
 use Rattle.std.proofs.Common.{◌≡◌, ℕ, sym, refl, ap, ◌∙◌, arith}
 use Rattle.layout.specs.declared.data_type.DataType.{DataType}
 use Rattle.layout.specs.declared.data_type.DataType.TheVariants.{Dictionary}
-use Rattle.leaves.specs.Rows.{by_place, row_of}
+use Rattle.leaves.specs.Rows.{by_place}
 use Rattle.columns.specs.Fold.{row_number}
 use Rattle.columns.specs.Jobs.{reach_from, standing}
+use Rattle.columns.specs.Words.{row_met}
 use Rattle.columns.proofs.Nodes.{refers_to_child}
 use Rattle.columns.proofs.met.Fold.fold_keys.Goals as goal
 
@@ -17,4 +18,4 @@ returns g c =
     let from : s.region.from ≡ 0 = s.from ∙ ap (λ (t : DataType). reach_from t n.column.bytes.now n.column.record s.span.from) c.requires.kind in
     c.fold_array.ensures
     ∙ ap (λ (k : ℕ).
-    by_place (λ j e. row_number n.t n.column.bytes.now n.column.record (standing s.region.numbers.now k) s.met.first e (row_of s.met.rows.lo s.met.rows.list j)) 0 c.args.words.now) (sym from)
+    by_place (λ j e. row_number n.t n.column.bytes.now n.column.record (standing s.region.numbers.now k) s.met.first e (row_met s.met j)) 0 c.args.words.now) (sym from)
