@@ -17,7 +17,7 @@ use Rattle.image.proofs.Readable.{bit_there, readable}
 use Rattle.leaves.specs.Rows.{LeafRow, Padded, is_leaf}
 use Rattle.columns.specs.Fold.{is_marked}
 use Rattle.columns.specs.Jobs.{need, reach_from, region, type_of}
-use Rattle.columns.specs.Seams.{FoldThere, ReachThere, RunsThere}
+use Rattle.columns.specs.Seams.{FoldThere, ReachThere, RunEndsThere}
 use Rattle.columns.specs.declared.node.Node.{Node}
 use Rattle.columns.proofs.Needed.{region_inside, region_need}
 use Rattle.columns.proofs.Ranges.{fold_there, reach_there, short}
@@ -83,8 +83,8 @@ module _ (n : Node) where
   node_reach lo count rows = reach_there (image_of n) n.number n.column.record lo count rows n.t node_passed node_linked (child_few 0)
 
   -- run ends can be searched
-  pub node_runs : (w : Width) → n.t ≡ RunEnd w → RunsThere w (image_of n) n.column.record (n.column.record.start + 0) 0
-  node_runs w e = (subst (λ (t : DataType). ReachThere t (image_of n) n.column.record 0 0) e (node_reach 0 0 (omega arith))).1
+  pub node_run_ends : (w : Width) → n.t ≡ RunEnd w → RunEndsThere w (image_of n) n.column.record (n.column.record.start + 0) 0
+  node_run_ends w e = (subst (λ (t : DataType). ReachThere t (image_of n) n.column.record 0 0) e (node_reach 0 0 (omega arith))).1
 
   -- the mark of a row, as a reference asks for it
   pub mark_is : (row : ℕ) → (reads_nulls n.t && marked (image_of n) n.column.record row) ≡ is_marked (image_of n) n.number row

@@ -26,8 +26,8 @@ OffsetsThere w bytes r at n =
     × (offset w bytes r (at + n) < 2 ^ 32)
 
 -- runs that can be searched, and that cover n elements from one on
-abbrev pub RunsThere : Width → List ℕ → Record → ℕ → ℕ → Type 0
-RunsThere w bytes r at n =
+abbrev pub RunEndsThere : Width → List ℕ → Record → ℕ → ℕ → Type 0
+RunEndsThere w bytes r at n =
     ChildThere bytes r 0
     × (r.a + wide w * child_rows bytes r 0 ≤ length bytes)
     × (bad_run_ends w bytes r ≡ false)
@@ -43,7 +43,7 @@ ReachThere (ListOf w) bytes r lo n = ((r.cnt == 0) ≡ false) × OffsetsThere w 
 ReachThere (ListView w) bytes r lo n = ((r.cnt == 0) ≡ false) × ChildThere bytes r 0
 ReachThere Map bytes r lo n = ((r.cnt == 0) ≡ false) × OffsetsThere Four bytes r (r.start + lo) n
 ReachThere (FixedSizeList p) bytes r lo n = ((r.cnt == 0) ≡ false) × (r.start + lo + n < 2 ^ 32) × (p * (r.start + lo) + p * n < 2 ^ 32) × (p * (r.start + lo + n) ≡ p * (r.start + lo) + p * n)
-ReachThere (RunEnd w) bytes r lo n = ((r.cnt == 0) ≡ false) × RunsThere w bytes r (r.start + lo) n
+ReachThere (RunEnd w) bytes r lo n = ((r.cnt == 0) ≡ false) × RunEndsThere w bytes r (r.start + lo) n
 ReachThere t bytes r lo n = Unit {0}
 
 -- an unmarked element can be folded whose child rows' numbers stand in a region of so many words, the first for the child row `from`
@@ -56,7 +56,7 @@ FoldThere (ListView w) bytes r at from len =
     ElementThere w bytes r.a at × ElementThere w bytes r.b at × Within from len (element w bytes r.a at) (element w bytes r.b at)
 FoldThere Map bytes r at from len = OffsetsThere Four bytes r at 1 × Within from len (offset Four bytes r at) (span Four bytes r at)
 FoldThere (FixedSizeList p) bytes r at from len = Within from len (p * at) p × (p * at + p < 2 ^ 32)
-FoldThere (RunEnd w) bytes r at from len = RunsThere w bytes r at 1 × (run_of w bytes r at < child_rows bytes r 0) × Within from len (run_of w bytes r at) 1
+FoldThere (RunEnd w) bytes r at from len = RunEndsThere w bytes r at 1 × (run_of w bytes r at < child_rows bytes r 0) × Within from len (run_of w bytes r at) 1
 FoldThere t bytes r at from len = Unit {0}
 
 -- each child of a node has `size` rows from one on, and so many words of work have room for a region of that size at a place and for each child's need behind it

@@ -152,11 +152,11 @@ pub(crate) fn hash_run_array(
     first: bool,
     e: u64,
 ) -> u64
-    requires run { run_of array.now.runs.width array.now.rows.column.bytes.now array.now.rows.column.record at < child_rows array.now.rows.column.bytes.now array.now.rows.column.record 0 }
-    requires reached { Holds region (run_of array.now.runs.width array.now.rows.column.bytes.now array.now.rows.column.record at) 1 }
-    ensures { result ≡ referred_in array.now.rows.column region.entry first e (run_of array.now.runs.width array.now.rows.column.bytes.now array.now.rows.column.record at) }
+    requires run { run_of array.now.ends.width array.now.rows.column.bytes.now array.now.rows.column.record at < child_rows array.now.rows.column.bytes.now array.now.rows.column.record 0 }
+    requires reached { Holds region (run_of array.now.ends.width array.now.rows.column.bytes.now array.now.rows.column.record at) 1 }
+    ensures { result ≡ referred_in array.now.rows.column region.entry first e (run_of array.now.ends.width array.now.rows.column.bytes.now array.now.rows.column.record at) }
 {
-    let run = array.runs.near(at as u64, array.before.get());
+    let run = array.ends.near(at as u64, array.before.get());
     array.before.set(run);
     array.rows.refer_to(run, region, first, e)
 }

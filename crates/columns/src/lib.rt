@@ -10,7 +10,7 @@ mod nested;
 pub mod node;
 mod reach;
 mod region;
-mod runs;
+mod run_ends;
 mod selection;
 mod span;
 mod walk;

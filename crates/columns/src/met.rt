@@ -233,9 +233,9 @@ impl Fold<'_, '_, '_> {
             DataType::Dictionary(width, signed) => self.fold_dictionary(width, signed, words),
             DataType::RunEnd(width) => {
                 let rows = References::of(&node);
-                let runs = node.runs(width);
+                let ends = node.run_ends(width);
                 let before = Cell::new(0);
-                self.fold_array(RunArray { rows, runs, before }, words)
+                self.fold_array(RunArray { rows, ends, before }, words)
             }
             _ => unreachable(),
         }

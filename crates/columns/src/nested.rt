@@ -12,7 +12,7 @@ use crate::fold::{
     hash_map_array, hash_run_array, hash_struct_array,
 };
 use crate::region::Region;
-use crate::runs::Runs;
+use crate::run_ends::RunEnds;
 use layout::bytes::Width;
 use layout::column::Column;
 use leaves::Wide;
@@ -128,15 +128,15 @@ impl<K: Wide> NestedArray for DictionaryArray<'_, K> {
 #[derive(Drop)]
 pub(crate) struct RunArray<'a> {
     pub rows: References<'a>,
-    pub runs: Runs<'a>,
+    pub ends: RunEnds<'a>,
     pub before: Cell<u32>,
-    ghost same: { runs.column ≡ rows.column },
+    ghost same: { ends.column ≡ rows.column },
 }
 
 impl NestedArray for RunArray<'_> {
     ghost column = { λ s. s.rows.column };
 
-    ghost data_type = { λ s. RunEnd s.runs.width };
+    ghost data_type = { λ s. RunEnd s.ends.width };
 
     fn fold(&self, at: usize, region: Region<'_>, first: bool, e: u64) -> u64 {
         hash_run_array(self, at, region, first, e)

@@ -6,7 +6,7 @@ ghost use Rattle.image.specs.Read.{offset};
 ghost use Rattle.layout.specs.declared.data_type.DataType.TheVariants.{RunEnd};
 
 use crate::node::Node;
-use crate::runs::Runs;
+use crate::run_ends::RunEnds;
 use crate::span::Span;
 use layout::bytes::Width;
 use layout::data_type::DataType;
@@ -26,13 +26,13 @@ impl<'a> Node<'a> {
         }
     }
 
-    pub(crate) fn runs(&self, width: Width) -> Runs<'a>
+    pub(crate) fn run_ends(&self, width: Width) -> RunEnds<'a>
         requires { self.now.t ≡ RunEnd width }
         ensures column { result.column ≡ self.now.column }
         ensures width { result.width ≡ width }
     {
         let column = self.column;
-        Runs {
+        RunEnds {
             column,
             width,
             count: column.child_rows(0),
@@ -62,7 +62,7 @@ impl<'a> Node<'a> {
                 from: 0,
                 size: self.column.child_rows(0),
             },
-            DataType::RunEnd(width) => self.runs(width).between(at as u64, n),
+            DataType::RunEnd(width) => self.run_ends(width).between(at as u64, n),
             _ => Span { from: 0, size: 0 },
         }
     }

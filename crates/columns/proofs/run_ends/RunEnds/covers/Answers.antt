@@ -2,7 +2,7 @@ use Rattle.std.proofs.Common.{◌≡◌, ℕ, ◌-◌, ◌<◌, ◌≤◌, Bool,
 use Rattle.std.proofs.lemmas.Bool.{cases_lt, eq-eqb, le-leb, lt-leb, lt-ltb}
 use Rattle.layout.specs.Nodes.{element}
 use Rattle.columns.proofs.Reaching.{ends_before, ends_behind, ends_here}
-use Rattle.columns.proofs.runs.Runs.covers.Goals as goal
+use Rattle.columns.proofs.run_ends.RunEnds.covers.Goals as goal
 
 -- the answer, where the run is there
 answer : (run runs found : ℕ) (b : Bool) → run < runs → eqb found run ≡ b → b ≡ (ltb run runs && eqb found run)

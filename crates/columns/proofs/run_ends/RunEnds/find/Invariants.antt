@@ -1,6 +1,6 @@
 use Rattle.std.proofs.Common.{ℕ, ◌-◌, ◌<◌, ◌≤◌}
 use Rattle.layout.specs.Nodes.{element}
-use Rattle.columns.proofs.runs.Runs.find.Given as goal
+use Rattle.columns.proofs.run_ends.RunEnds.find.Given as goal
 
 abbrev pub invariant-loop-low : goal.invariant-loop-low
 invariant-loop-low l =

@@ -2,7 +2,7 @@
 ghost use Rattle.std.specs.Prelude.{◌≡◌, ◌+◌, ◌-◌, ◌*◌, ◌<◌, ◌≤◌, false, ◌&&◌, length, ◌==◌, nat_lt};
 ghost use Rattle.admission.specs.Rejections.{bad_run_ends};
 ghost use Rattle.columns.specs.Jobs.{run_till};
-ghost use Rattle.columns.specs.Seams.{RunsThere};
+ghost use Rattle.columns.specs.Seams.{RunEndsThere};
 ghost use Rattle.image.specs.Read.{run_of};
 ghost use Rattle.layout.specs.Bytes.{wide};
 ghost use Rattle.layout.specs.Nodes.{child_rows, element};
@@ -12,7 +12,7 @@ use layout::bytes::Width;
 use layout::column::Column;
 
 #[derive(Clone, Copy)]
-pub(crate) struct Runs<'a> {
+pub(crate) struct RunEnds<'a> {
     pub column: Column<'a>,
     pub width: Width,
     pub count: u32,
@@ -21,7 +21,7 @@ pub(crate) struct Runs<'a> {
     ghost rising: { bad_run_ends width column.bytes.now column.record ≡ false },
 }
 
-impl Runs<'_> {
+impl RunEnds<'_> {
     // The first element behind a run.
     fn end(&self, run: u32) -> u64
         requires { run < self.now.count }
@@ -80,7 +80,7 @@ impl Runs<'_> {
 
     // The runs of `n` elements from one on.
     pub(crate) fn between(&self, at: u64, n: u32) -> Span
-        requires { RunsThere self.now.width self.now.column.bytes.now self.now.column.record at n }
+        requires { RunEndsThere self.now.width self.now.column.bytes.now self.now.column.record at n }
         ensures from { result.from ≡ run_of self.now.width self.now.column.bytes.now self.now.column.record at }
         ensures size { result.size ≡ run_till self.now.width self.now.column.bytes.now self.now.column.record at n - run_of self.now.width self.now.column.bytes.now self.now.column.record at }
     {

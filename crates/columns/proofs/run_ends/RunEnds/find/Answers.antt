@@ -2,7 +2,7 @@ use Rattle.std.proofs.Common.{◌≡◌, ℕ, ◌+◌, ◌-◌, ◌/◌, ◌<◌
 use Rattle.std.proofs.lemmas.Bool.{le-ltb, lt-ltb}
 use Rattle.layout.specs.Nodes.{child_rows, element}
 use Rattle.columns.proofs.Reaching.{ends_rise, first_is}
-use Rattle.columns.proofs.runs.Runs.find.Goals as goal
+use Rattle.columns.proofs.run_ends.RunEnds.find.Goals as goal
 
 pub loop-low-preserved-then-end-at : goal.loop-low-preserved-then-end-at
 loop-low-preserved-then-end-at c =
