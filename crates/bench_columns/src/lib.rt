@@ -78,8 +78,8 @@ fn hash_image<S: HashState>(
 }
 
 // Two functions, since C has no generics. Of the bytes of an image, entries and work, answers whether they are an image
-// without a fault whose node has no more rows than there are entries and no more need than there are words of work. If so,
-// the first entries, as many as the node has rows, are hashed; else nothing is written.
+// without a fault whose node has no more rows than there are entries and no more need than there are words of work. If
+// so, the first entries, as many as the node has rows, are hashed; else nothing is written.
 #[unsafe(no_mangle)]
 pub extern "C" fn rt_fnv_column(
     start: u64,

@@ -15,7 +15,7 @@ use crate::walk::{enter, walk};
 use hash_state::HashState;
 use leaves::Rows;
 
-// All children in turn, each over the same region at `at`.
+// All children in turn over one region of the work, the words from `at` on: one for each of the rows.
 fn hash_children<S: HashState>(node: &Node<'_>, rows: Span, at: usize, state: &S, work: &mut [u64])
     requires { ChildrenFit node.now rows.from rows.size at (length work.old) }
     ensures { Did at rows.size (λ i x. through_children (S.BuildHasher.one state.now) (S.HashState.seeded state.now) node.now (rows.from + i) x) work.old work.new }
@@ -26,8 +26,8 @@ fn hash_children<S: HashState>(node: &Node<'_>, rows: Span, at: usize, state: &S
     }
 }
 
-// Each word that meets a row by the row rule; the children's numbers come in the work from `at` on. The place goes beside
-// the work since the jobs of the walk have their places in it.
+// Each entry by the row rule, at the row that it meets. The numbers of child rows come into the work from `at` on; the
+// place goes beside the work since the jobs of the walk have their places in it.
 fn hash_rows<S: HashState>(
     met: Met<'_, '_>,
     state: &S,
@@ -51,7 +51,7 @@ fn hash_rows<S: HashState>(
     fold.hash(state, entries);
 }
 
-// How many words meet a row. The list is taken apart by `let .. else`, as all lists of rows are.
+// How many entries meet a row: one for each number of a list, or without a list one for each of the node's rows.
 fn rows_met(list: Option<&[u32]>, rows: u32) -> usize
     ensures { result ≡ met_rows rows list.entry }
 {
@@ -61,9 +61,9 @@ fn rows_met(list: Option<&[u32]>, rows: u32) -> usize
     list.len()
 }
 
-// The number of every row that is met, each from the word that was in its entry: in the first entries, one after the other.
-// Entries behind them stay, and so do the first `claimed` words of the work. It asks that node and rows are there, that there
-// are entries and work enough, and refuses nothing.
+// The number of every row that is met, each from the word that was in its entry: in the first entries, one after the
+// other. Entries behind them stay, and so do the first `claimed` words of the work. It asks that node and rows are
+// there, that there are entries and work enough, and refuses nothing.
 pub fn hash_column<S: HashState>(
     selection: Selection<'_>,
     first: bool,

@@ -1,5 +1,5 @@
-// The folds of child rows' numbers into an entry: each `hash_..` function is the body of the loop in the Rust's function of
-// its name, for one element that is not marked null. What each takes differs, so the parameters go on one by one.
+// The folds of child rows' numbers into an entry: each `hash_..` function is for one element that is not marked null
+// what the loop does in DataFusion's function of its name.
 ghost use Rattle.std.specs.Prelude.{◌≡◌, ◌+◌, ◌*◌, ◌^◌, ◌<◌, false, cond, length, if◌then◌else◌, ◌==◌, nat_eq};
 ghost use Rattle.admission.specs.Seams.{ElementThere};
 ghost use Rattle.columns.specs.Region.{ChildRow, Holds, combined_in, key_of, number_in, referred_in};
@@ -18,7 +18,7 @@ use layout::bytes::{Width, element_at};
 use layout::column::Column;
 use leaves::{Wide, element_of};
 
-// The number that the fields came to, 0 without fields.
+// The number that the fields of an element came to, 0 without fields, combined with the entry.
 pub(crate) fn hash_struct_array(column: &Column<'_>, at: usize, region: Region<'_>, e: u64) -> u64
     requires { (column.now.record.cnt == 0) ≡ false → Holds region at 1 }
     ensures { result ≡ C e (if nat_eq column.now.record.cnt 0 then 0 else number_in region.entry at) }
@@ -56,7 +56,7 @@ pub(crate) fn hash_map_array(column: &Column<'_>, at: usize, region: Region<'_>,
     hash_list_array::<u32>(column, at, region, e)
 }
 
-// As many child rows as the size says, from the offset on.
+// As many child rows as the element's size, from its offset on.
 pub(crate) fn hash_list_view_array(
     column: &Column<'_>,
     width: Width,
@@ -74,7 +74,7 @@ pub(crate) fn hash_list_view_array(
     region.combine(start, size, e)
 }
 
-// The element's share of the child rows.
+// The `size` child rows of an element.
 pub(crate) fn hash_fixed_list_array(size: u32, at: usize, region: Region<'_>, e: u64) -> u64
     requires reached { Holds region (size * at) size }
     requires small { size * at + size < 2 ^ 32 }
@@ -127,7 +127,7 @@ impl<'a> References<'a> {
     }
 }
 
-// The child row that the key names.
+// The child row that the element's key names.
 pub(crate) fn hash_dictionary<K: Wide>(
     rows: &References<'_>,
     at: usize,
@@ -144,7 +144,7 @@ pub(crate) fn hash_dictionary<K: Wide>(
     rows.refer_to(key as u32, region, first, e)
 }
 
-// The run that covers the element; it is looked for first where the row before had its own.
+// The child row of the run that covers the element. It is looked for first where the element before had its own.
 pub(crate) fn hash_run_array(
     array: &RunArray<'_>,
     at: usize,

@@ -3,9 +3,10 @@ ghost use Rattle.std.specs.Prelude.{◌≡◌};
 
 use crate::span::Span;
 
-// Rows of a node, from `lo` on, hashed into the `n` words of the work at `at`.
+// Rows of a node, `n` of them from `lo` on, which are hashed into as many words of the work, from word `at` on; `node`
+// is the node's number. As first or not, for all of them.
 #[derive(Clone, Copy)]
-pub struct Job {
+pub(crate) struct Job {
     pub node: u32,
     pub lo: u32,
     pub n: u32,
@@ -26,9 +27,9 @@ impl Job {
     }
 }
 
-// A job whose first `stage` children are done.
+// A job whose first `stage` children are done, of 0 to 255.
 #[derive(Clone, Copy)]
-pub struct Frame {
+pub(crate) struct Frame {
     pub job: Job,
     pub stage: u32,
 }

@@ -3,11 +3,11 @@
 
 mod column;
 mod fold;
-pub mod job;
+mod job;
 mod met;
 mod needs;
 mod nested;
-pub mod node;
+mod node;
 mod reach;
 mod region;
 mod run_ends;

@@ -1,4 +1,4 @@
-// The rows that words meet, and the numbers that the words become.
+// The rows of a node that words meet, and the numbers that the words become.
 ghost use Rattle.std.specs.Prelude.{◌≡◌, ℕ, ◌+◌, ◌^◌, ◌<◌, ◌≤◌, true, false, length, slice_index};
 ghost use Rattle.columns.specs.Column.{met_rows};
 ghost use Rattle.columns.specs.Jobs.{reach_from, region as region_of};
@@ -20,8 +20,8 @@ use leaves::{Rows, Wide, hash_leaf};
 use std::cell::Cell;
 use std::marker::PhantomData;
 
-// Rows of a node, each met by one of `n` words, hashed as first or not. `n` stands beside the list: without a list nothing
-// else tells how many rows are met.
+// Rows of a node, each met by one of `n` words, below 2^32, and hashed as first or not. `n` stands beside the list:
+// without a list nothing else says how many rows are met.
 #[derive(Clone, Copy)]
 pub(crate) struct Met<'a, 'l> {
     pub node: Node<'a>,
@@ -34,7 +34,7 @@ pub(crate) struct Met<'a, 'l> {
     ghost fits: { rows.lo + n < 2 ^ 32 },
 }
 
-// The rows from the least to the greatest of a list.
+// The rows from the least to the greatest that a list names, none of an empty list; the node has `rows` of them.
 fn bounds(list: &[u32], rows: u32) -> Span
     requires { (j : ℕ) → j < length list.now → slice_index list.now j < rows }
     ensures within { result.from + result.size ≤ rows }
@@ -58,7 +58,7 @@ fn bounds(list: &[u32], rows: u32) -> Span
 impl Met<'_, '_> {
     ghost use Rattle.columns.specs.Words.{leaf_words, row_met};
 
-    // The rows from the first to the last that is met. The list is taken apart by `let .. else`, as all lists of rows are.
+    // The rows from the least to the greatest that is met.
     pub(crate) fn span(&self) -> Span
         ensures within { result.from + result.size ≤ self.now.node.column.record.rows }
         ensures met { (j : ℕ) → j < self.now.n → (result.from ≤ row_met self.now j) × (row_met self.now j < result.from + result.size) }
@@ -72,7 +72,7 @@ impl Met<'_, '_> {
         bounds(list, self.node.column.record.rows)
     }
 
-    // Words that meet rows of a leaf.
+    // The words become their rows' numbers, at a node without children.
     fn hash_leaf<S: HashState>(&self, state: &S, words: &mut [u64])
         requires leaf { is_leaf self.now.node.t ≡ true }
         requires words { length words.old ≡ self.now.n }
@@ -89,7 +89,7 @@ impl Met<'_, '_> {
     }
 }
 
-// Rows that words meet, of a span, and the numbers of the child rows that the span reaches.
+// Rows that words meet, a span of rows that has them all, and the numbers of the child rows that the span reaches.
 #[derive(Clone, Copy)]
 pub(crate) struct Fold<'a, 'l, 'w> {
     pub met: Met<'a, 'l>,
@@ -119,9 +119,9 @@ impl Fold<'_, '_, '_> {
         array.fold(at, self.region, self.met.first, e)
     }
 
-    // Each word in place, at the row that it meets. A loop beside that of the leaves: one for both would take a closure
-    // whose contract speaks of values that are told and of regions that are folded. Words are lent apart from what they
-    // are folded by, so no field can say how many there are.
+    // Each word in place, at the row that it meets. The leaves have a loop of their own: one for both would take a
+    // closure whose contract speaks of writes and of regions alike. Words are lent apart from what they are folded by,
+    // so no field can say how many there are.
     fn fold_each<A: NestedArray, F: Fn(usize) -> usize + Drop>(
         self,
         array: &A,
@@ -180,8 +180,8 @@ impl Fold<'_, '_, '_> {
         }
     }
 
-    // The same of a dictionary by keys of one type. Its numbers begin at the first value: the 0 says so to the compiler, so
-    // that no row takes it off.
+    // The same of a dictionary by keys of one type. Its numbers begin at the first value: the 0 says so to the
+    // compiler, so that no row takes it off.
     fn fold_keys<K: Wide + Drop>(self, signed: bool, words: &mut [u64])
         requires words { length words.old ≡ self.met.n }
         requires kind { self.met.node.t ≡ Dictionary K.Native.width signed }

@@ -9,7 +9,7 @@ ghost use Rattle.layout.specs.Nodes.{child_count};
 use crate::node::Node;
 use image::place::Image;
 
-// The most of a child's rows and its need, as the table has them.
+// The largest sum of a child's rows and its need, which stands in the table at the child's number; 0 without children.
 fn need_of(node: &Node<'_>, needs: &[u32; 256]) -> u32
     requires { NeedsThere node.now needs.now }
     ensures { result ≡ most (needs_of node.now.column.bytes.now node.now.column.record needs.now) (child_count (Some node.now.t) node.now.column.record) }
@@ -36,7 +36,7 @@ pub(crate) fn need(image: &Image<'_>, number: u32) -> u32
     needs[number as usize]
 }
 
-// How many words of work a node needs, or none where there is no such node.
+// How many words of work a node needs, by its number from 0: at most 16,777,216. None where there is no such node.
 pub fn node_need(image: &Image<'_>, node: u64) -> Option<u32>
     ensures { result ≡ node_need image.now.bytes.now node }
 {

@@ -19,8 +19,8 @@ use leaves::Wide;
 use std::cell::Cell;
 use std::marker::PhantomData;
 
-// A type for each kind, by the Rust's names: what `FoldThere` and `folded` say goes by the type. Offsets and keys are of a
-// type each, so that no row looks at their width.
+// A kind of column with children. There is a type for each, by Arrow's names in Rust, and what `FoldThere` and `folded`
+// say goes by it. Offsets and keys have a type of each width, so that no row looks at the width.
 pub(crate) trait NestedArray {
     ghost column: { Self → Column };
 
@@ -33,6 +33,7 @@ pub(crate) trait NestedArray {
         ensures { result ≡ folded (data_type self.now) (column self.now).bytes.now (column self.now).record (number_in region.entry) first e at };
 }
 
+// Fields, which an element has at its own place in each child.
 #[derive(Drop)]
 pub(crate) struct StructArray<'a>(pub Column<'a>);
 
@@ -46,6 +47,7 @@ impl NestedArray for StructArray<'_> {
     }
 }
 
+// Lists by offsets of a type.
 #[derive(Drop)]
 pub(crate) struct ListArray<'a, O> {
     pub column: Column<'a>,
@@ -62,6 +64,7 @@ impl<O: Wide> NestedArray for ListArray<'_, O> {
     }
 }
 
+// Lists by an offset and a size each, of a width.
 #[derive(Drop)]
 pub(crate) struct ListViewArray<'a> {
     pub column: Column<'a>,
@@ -78,6 +81,7 @@ impl NestedArray for ListViewArray<'_> {
     }
 }
 
+// Lists of keys with values, by offsets of 4 bytes.
 #[derive(Drop)]
 pub(crate) struct MapArray<'a>(pub Column<'a>);
 
@@ -91,6 +95,7 @@ impl NestedArray for MapArray<'_> {
     }
 }
 
+// Lists of `size` child rows each.
 #[derive(Drop)]
 pub(crate) struct FixedSizeListArray<'a> {
     pub column: Column<'a>,
@@ -107,6 +112,7 @@ impl NestedArray for FixedSizeListArray<'_> {
     }
 }
 
+// Keys of a type, each the number of a child row.
 #[derive(Drop)]
 pub(crate) struct DictionaryArray<'a, K> {
     pub rows: References<'a>,
@@ -124,7 +130,8 @@ impl<K: Wide> NestedArray for DictionaryArray<'_, K> {
     }
 }
 
-// `before` is the run of the row before, as a guess: nothing rests on it.
+// Runs of equal rows, each a child row. `before` is the run of the element before, where the search begins: no number
+// rests on it.
 #[derive(Drop)]
 pub(crate) struct RunArray<'a> {
     pub rows: References<'a>,

@@ -12,9 +12,9 @@ use layout::column::Column;
 use layout::data_type::DataType;
 use layout::record::Record;
 
-// A column of a sound image, and the number and the type of its node.
+// A node of an image that admission has found without a fault: its column, its number, from 0 to 255, and its type.
 #[derive(Clone, Copy)]
-pub struct Node<'a> {
+pub(crate) struct Node<'a> {
     pub(crate) column: Column<'a>,
     pub(crate) number: u32,
     pub(crate) t: DataType,
@@ -44,7 +44,7 @@ impl<'a> Node<'a> {
         Node { column, number, t }
     }
 
-    // Who makes a node asks for its number here; the node then keeps that it is there.
+    // The node of a number. Whoever makes it shows that there is one; the node then keeps that.
     pub(crate) fn of(image: &Image<'a>, number: u32) -> Node<'a>
         requires { number < nodes image.now.bytes.now }
         ensures bytes { result.column.bytes.now ≡ image.now.bytes.now }
@@ -62,6 +62,7 @@ impl<'a> Node<'a> {
         Node::read(self.column.bytes, number)
     }
 
+    // A child by its place in TAB, from 0.
     pub(crate) fn child(&self, index: u32) -> Node<'a>
         requires { index < child_count (Some self.now.t) self.now.column.record }
         ensures bytes { result.column.bytes.now ≡ self.now.column.bytes.now }

@@ -12,7 +12,7 @@ use layout::bytes::Width;
 use layout::data_type::DataType;
 
 impl<'a> Node<'a> {
-    // The rows between two offsets.
+    // The child rows between the offset of an element and that of the element `n` behind it.
     fn between_offsets(&self, width: Width, at: usize, n: u32) -> Span
         requires { OffsetsThere width self.now.column.bytes.now self.now.column.record at n }
         ensures from { result.from ≡ offset width self.now.column.bytes.now self.now.column.record at }
@@ -26,6 +26,7 @@ impl<'a> Node<'a> {
         }
     }
 
+    // The run ends, of a node that has them.
     pub(crate) fn run_ends(&self, width: Width) -> RunEnds<'a>
         requires { self.now.t ≡ RunEnd width }
         ensures column { result.column ≡ self.now.column }
@@ -39,6 +40,7 @@ impl<'a> Node<'a> {
         }
     }
 
+    // The child rows that a range of rows reaches, where offsets and run ends are in order.
     fn reach_there(&self, rows: Span) -> Span
         requires { ReachThere self.now.t self.now.column.bytes.now self.now.column.record rows.from rows.size }
         ensures from { result.from ≡ reach_from self.now.t self.now.column.bytes.now self.now.column.record rows.from }
@@ -67,7 +69,8 @@ impl<'a> Node<'a> {
         }
     }
 
-    // The child rows that rows one after the other reach.
+    // The child rows that a range of rows reaches. A node of a sound image has its offsets and run ends in order, so
+    // this asks for no more than that the rows are there.
     pub(crate) fn reach(&self, rows: Span) -> Span
         requires { rows.from + rows.size ≤ self.now.column.record.rows }
         ensures from { result.from ≡ reach_from self.now.t self.now.column.bytes.now self.now.column.record rows.from }

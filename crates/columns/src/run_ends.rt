@@ -1,4 +1,4 @@
-// The runs of a column, by the ends that they rise to.
+// The run ends of a column, which find the run of an element.
 ghost use Rattle.std.specs.Prelude.{◌≡◌, ◌+◌, ◌-◌, ◌*◌, ◌<◌, ◌≤◌, false, ◌&&◌, length, ◌==◌, nat_lt};
 ghost use Rattle.admission.specs.Rejections.{bad_run_ends};
 ghost use Rattle.columns.specs.Jobs.{run_till};
@@ -11,6 +11,7 @@ use crate::span::Span;
 use layout::bytes::Width;
 use layout::column::Column;
 
+// As many run ends as the child has rows, of one width, in the buffer at A; each is above the one before.
 #[derive(Clone, Copy)]
 pub(crate) struct RunEnds<'a> {
     pub column: Column<'a>,
@@ -78,7 +79,7 @@ impl RunEnds<'_> {
         self.find(at)
     }
 
-    // The runs of `n` elements from one on.
+    // The runs that cover `n` elements from one on, none of no elements.
     pub(crate) fn between(&self, at: u64, n: u32) -> Span
         requires { RunEndsThere self.now.width self.now.column.bytes.now self.now.column.record at n }
         ensures from { result.from ≡ run_of self.now.width self.now.column.bytes.now self.now.column.record at }

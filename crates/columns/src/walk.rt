@@ -13,7 +13,7 @@ use crate::words::open;
 use hash_state::HashState;
 use leaves::Rows;
 
-// The end of a job: the words of its rows, once those of its children stand behind them.
+// The end of a job: its words become its rows' numbers, by those of the child rows in the region behind them.
 fn leave<S: HashState>(node: &Node<'_>, job: Job, state: &S, work: &mut [u64])
     requires rows { job.lo + job.n ≤ node.now.column.record.rows }
     requires room { job.at + job.n + region node.now.t node.now.column.bytes.now node.now.column.record job.lo job.n ≤ length work.old }
@@ -70,8 +70,9 @@ fn enter_behind(node: &Node<'_>, job: Job, stage: u32, work: &mut [u64]) -> Job
     enter(node, stage, rows, job.at + job.n as usize, work)
 }
 
-// Does a job at a node of an image and all below it: the frame in hand, and 16 that wait. The frames are an array with
-// a depth, as the engine has no heap and no recursion.
+// Does a job and those of all descendants of its node; `node` is any node of the image. The frames that wait are an
+// array of 16 with a depth, beside the one in hand: no node is higher than 16, and there is no heap and no recursion
+// here.
 pub(crate) fn walk<S: HashState>(node: &Node<'_>, root: Job, state: &S, work: &mut [u64])
     requires { Fits (plan (S.BuildHasher.one state.now) (S.HashState.seeded state.now) node.now.column.bytes.now (length work.old)) 16 root }
     ensures { work.new ≡ complete (plan (S.BuildHasher.one state.now) (S.HashState.seeded state.now) node.now.column.bytes.now (length work.old)) 16 root 0 work.old }

@@ -2,6 +2,7 @@
 ghost use Rattle.std.specs.Prelude.{◌≡◌, ◌+◌, ◌≤◌, length, replicate};
 ghost use Rattle.columns.specs.Jobs.{opened, splice};
 
+// Every word becomes 0.
 fn clear(region: &mut [u64])
     ensures { region.new ≡ replicate (length region.old) 0 }
 {
@@ -16,7 +17,8 @@ fn clear_at(work: &mut [u64], at: usize, n: usize)
     clear(&mut work[at..at + n]);
 }
 
-// Clears them before child 0. One function, as `opened` of the definitions: the walk and the call over a column both do so.
+// Clears the `n` words at `at` before child 0, and leaves them to the other children: each goes on from where the one
+// before came to.
 pub(crate) fn open(work: &mut [u64], at: usize, n: usize, stage: u32)
     requires { at + n ≤ length work.old }
     ensures { work.new ≡ opened at n stage work.old }
