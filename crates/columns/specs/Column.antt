@@ -28,10 +28,15 @@ column_words ONE SEED bytes node list first words =
     let n : ℕ = met_rows (record_at bytes node).rows list in
     by_place (λ j e. number_of ONE SEED first e (slot_at bytes node (row_of 0 list j))) 0 (take n words) ++ drop n words
 
--- what a call over a column asks of a selection and of how many entries, words of work and claimed words there are: there is such a node; its rows are those that are met, each by an entry, and fewer than 2^32; and what is not claimed of the work has room for the node's need
+-- what a call over a column asks, where there are so many entries, words of work, and claimed words at its front
 pub record Hashable (s : Selection) (words work claimed : ℕ) : Type 0 where
+  -- there is such a node
   pub there : s.node < nodes s.image.now.bytes.now
+  -- each row that is met is one of its rows
   pub rows : RowsThere (record_at s.image.now.bytes.now s.node).rows s.list
+  -- there is an entry for each
   pub entries : met_rows (record_at s.image.now.bytes.now s.node).rows s.list ≤ words
+  -- their count fits 32 bits
   pub few : met_rows (record_at s.image.now.bytes.now s.node).rows s.list < 2 ^ 32
+  -- what is not claimed of the work has room for the node's need
   pub room : need s.image.now.bytes.now s.node ≤ work - claimed

@@ -6,7 +6,7 @@ use Rattle.layout.specs.declared.bytes.Width.TheVariants.{Four}
 use Rattle.layout.specs.declared.record.Record.{Record}
 use Rattle.layout.specs.declared.data_type.DataType.{DataType}
 use Rattle.layout.specs.declared.data_type.DataType.TheVariants.{Null, Dictionary, Struct, List as ListOf, ListView, Map, FixedSizeList, RunEnd}
-use Rattle.layout.specs.Nodes.{child, child_count, child_rows, listed, table}
+use Rattle.layout.specs.Nodes.{child, child_count, child_rows}
 use Rattle.layout.specs.Records.{nodes, record_at}
 use Rattle.layout.specs.Types.{data_type}
 use Rattle.hash_state.specs.Writes.{Write}
@@ -35,12 +35,10 @@ need_within (suc levels) bytes node =
 abbrev pub need : List ℕ → ℕ → ℕ
 need bytes node = need_within 16 bytes node
 
--- the first of the child rows that rows from `lo` on reach
+-- the first of the child rows that rows from `lo` on reach; keys and list views may name any row, so theirs is row 0
 abbrev pub reach_from : DataType → List ℕ → Record → ℕ → ℕ
-reach_from (Dictionary w signed) bytes r lo = 0
 reach_from Struct bytes r lo = r.start + lo
 reach_from (ListOf w) bytes r lo = offset w bytes r (r.start + lo)
-reach_from (ListView w) bytes r lo = 0
 reach_from Map bytes r lo = offset Four bytes r (r.start + lo)
 reach_from (FixedSizeList p) bytes r lo = p * (r.start + lo)
 reach_from (RunEnd w) bytes r lo = run_of w bytes r (r.start + lo)

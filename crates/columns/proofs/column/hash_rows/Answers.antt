@@ -1,5 +1,4 @@
-use Rattle.std.proofs.Common.{ℕ, ◌+◌, ◌-◌, List, get_or, take, drop, ap, ◌∙◌, arith, Some}
-use Rattle.layout.specs.Nodes.{child, child_count}
+use Rattle.std.proofs.Common.{ℕ, ◌+◌, ◌-◌, List, get_or, take, drop, ap, ◌∙◌, arith}
 use Rattle.leaves.specs.Rows.{by_place}
 use Rattle.columns.specs.Jobs.{row_by, standing}
 use Rattle.columns.specs.Words.{row_met, through_children}

@@ -1,4 +1,4 @@
-use Rattle.std.proofs.Common.{ℕ, ◌<◌, length, get_or, ap, ◌∙◌, arith}
+use Rattle.std.proofs.Common.{◌<◌, length, get_or, ap, ◌∙◌, arith}
 use Rattle.leaves.proofs.Steps.{made_written}
 use Rattle.columns.specs.Words.{folded_number}
 use Rattle.columns.proofs.met.Fold.fold_each.Goals as goal
