@@ -1,8 +1,7 @@
 -- What words become that each meet a row of a node.
 use Rattle.std.specs.Prelude.{ℕ, List, Some}
 use Rattle.hash_state.specs.Writes.{Write}
-use Rattle.image.specs.Read.{slot_at, typed_slot}
-use Rattle.image.specs.Slot.{null}
+use Rattle.image.specs.Read.{slot_at}
 use Rattle.layout.specs.Nodes.{child, child_count}
 use Rattle.leaves.specs.Rows.{by_place, row_of}
 use Rattle.row_rule.specs.Number.{number_of}
@@ -30,12 +29,7 @@ module _ (ONE : List Write → ℕ) (SEED : ℕ → List Write → ℕ) where
   abbrev pub met_words : Met → List ℕ → List ℕ
   met_words m words = by_place (λ j e. number_of ONE SEED m.first e (slot_at m.node.column.bytes.now m.node.number (row_met m j))) 0 words
 
-  -- the same at a leaf, whose slots are read without looking at other nodes
-  abbrev pub leaf_words : Met → List ℕ → List ℕ
-  leaf_words m words =
-      by_place (λ j e. number_of ONE SEED m.first e (typed_slot m.node.t m.node.column.bytes.now m.node.column.record (λ _ _. null) (row_met m j))) 0 words
-
-  -- the same at any node: at a leaf by its row, else by the numbers of child rows in the region
+  -- each word becomes its row's number: at a leaf by the row itself, else by the numbers of child rows in the region
   abbrev pub hashed_words : Fold → List ℕ → List ℕ
   hashed_words f words =
       by_place (λ j e. row_by ONE SEED f.met.node.column.bytes.now f.met.node.t f.met.node.column.record (number_in f.region) f.met.first e (row_met f.met j)) 0 words

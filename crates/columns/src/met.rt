@@ -56,7 +56,10 @@ fn bounds(list: &[u32], rows: u32) -> Span
 }
 
 impl Met<'_, '_> {
-    ghost use Rattle.columns.specs.Words.{leaf_words, row_met};
+    ghost use Rattle.columns.specs.Words.{row_met};
+    ghost use Rattle.image.specs.Slot.{null};
+    ghost use Rattle.leaves.specs.Rows.{column_slot, leaf_words};
+    ghost use Rattle.row_rule.specs.Number.{number_of};
 
     // The rows from the least to the greatest that is met.
     pub(crate) fn span(&self) -> Span
@@ -76,7 +79,7 @@ impl Met<'_, '_> {
     fn hash_leaf<S: HashState>(&self, state: &S, words: &mut [u64])
         requires leaf { is_leaf self.now.node.t ≡ true }
         requires words { length words.old ≡ self.now.n }
-        ensures { words.new ≡ leaf_words (S.BuildHasher.one state.now) (S.HashState.seeded state.now) self.now words.old }
+        ensures { let m = self.now in words.new ≡ leaf_words (number_of (S.BuildHasher.one state.now) (S.HashState.seeded state.now) m.first) (column_slot m.node.column m.node.t (λ _ _. null)) m.rows words.old }
     {
         hash_leaf(
             self.node.column,
