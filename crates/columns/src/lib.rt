@@ -1,6 +1,7 @@
 // The number of every row of every column.
 #![tactic(auto)]
 
+mod clear;
 mod column;
 mod fold;
 mod job;
@@ -14,7 +15,6 @@ mod run_ends;
 mod selection;
 mod span;
 mod walk;
-mod words;
 
 pub use column::hash_column;
 pub use needs::node_need;

@@ -4,12 +4,12 @@ ghost use Rattle.layout.specs.Nodes.{child_count};
 ghost use Rattle.columns.specs.Jobs.{child_job, child_at, ended, opened, plan, region};
 ghost use Rattle.columns.specs.Machine.{Fits, complete};
 
+use crate::clear::open;
 use crate::job::{Frame, Job};
 use crate::met::{Fold, Met};
 use crate::node::Node;
 use crate::region::Region;
 use crate::span::Span;
-use crate::words::open;
 use hash_state::HashState;
 use leaves::Rows;
 

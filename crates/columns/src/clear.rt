@@ -1,4 +1,4 @@
-// Words of the work.
+// Words of the work that are cleared.
 ghost use Rattle.std.specs.Prelude.{◌≡◌, ◌+◌, ◌≤◌, length, replicate};
 ghost use Rattle.columns.specs.Jobs.{opened, splice};
 
