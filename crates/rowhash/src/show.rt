@@ -76,7 +76,7 @@ pub(crate) fn show(rt: &HostRuntime, path: &str, node: Option<u64>) -> Result<()
                 Ok(Failure::NoNode(String::from_str(heap, path)?, node, count))
             })?;
             writeln!(listing.out, "{path}: bytes {size}, nodes {count}")?;
-            listing.show_rows(node, record.rows)?;
+            listing.show_rows(node, &record)?;
         }
     }
     listing.out.flush()?;
@@ -110,10 +110,13 @@ impl Listing<'_> {
         writeln!(self.out, "{shown}")
     }
 
-    fn show_rows(&mut self, node: u64, rows: u32) -> io::Result<()> {
-        for row in 0..rows {
+    fn show_rows(&mut self, node: u64, record: &Record) -> io::Result<()> {
+        let Some(data_type) = record.data_type() else {
+            return Ok(());
+        };
+        for row in 0..record.rows {
             if let Ok(value) = self.image.slot(node, u64::from(row)) {
-                writeln!(self.out, "{row:>7}  {}", SlotShown(value))?;
+                writeln!(self.out, "{row:>7}  {}", SlotShown(data_type, value))?;
             }
         }
         Ok(())

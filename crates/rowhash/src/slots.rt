@@ -2,6 +2,7 @@
 use crate::types::TypeName;
 use image::value::{Part, SlotFault, SlotValue};
 use layout::bytes::Width;
+use layout::data_type::DataType;
 use std::fmt;
 use std::str::from_utf8;
 use text::Hex;
@@ -51,7 +52,7 @@ impl fmt::Display for SlotAnswer<'_> {
             Ok(SlotValue::Text(part)) => write!(f, "text {}", Placed(part)),
             Ok(SlotValue::Binary(part)) => write!(f, "binary {}", Placed(part)),
             Ok(SlotValue::View(part)) => write!(f, "view {}", Placed(part)),
-            Ok(SlotValue::Kind(data_type)) => write!(f, "kind {}", data_type.kind()),
+            Ok(SlotValue::Kind(kind)) => write!(f, "kind {}", kind.number()),
             Err(fault) => write!(f, "refused {}", fault.number()),
         }
     }
@@ -114,13 +115,15 @@ impl fmt::Display for Counted {
     }
 }
 
-// A slot for a person. A text of its own: replay's words are fixed by what it answers, a person's are not.
+// A slot for a person, with the type of its node, which stands for a slot of which the kind alone is known. A text of its
+// own: replay's words are fixed by what it answers, a person's are not.
 #[derive(Clone, Copy)]
-pub struct SlotShown<'a>(pub SlotValue<'a>);
+pub struct SlotShown<'a>(pub DataType, pub SlotValue<'a>);
 
 impl fmt::Display for SlotShown<'_> {
     fn fmt<W: fmt::Write>(&self, f: &mut fmt::Formatter<W>) -> fmt::Result {
-        match self.0 {
+        let SlotShown(data_type, value) = *self;
+        match value {
             SlotValue::Null => f.write_str("null"),
             SlotValue::Boolean(value) => write!(f, "boolean {value}"),
             SlotValue::Number(width, value) => write!(f, "number {}", Counted(width, value)),
@@ -128,7 +131,7 @@ impl fmt::Display for SlotShown<'_> {
             SlotValue::Text(part) => write!(f, "text {} {}", part.place, Quoted(part.bytes)),
             SlotValue::Binary(part) => write!(f, "binary {}", Placed(part)),
             SlotValue::View(part) => write!(f, "view {} {}", part.place, Quoted(part.bytes)),
-            SlotValue::Kind(data_type) => write!(f, "{}", TypeName(data_type)),
+            SlotValue::Kind(_) => write!(f, "{}", TypeName(data_type)),
         }
     }
 }
