@@ -1,110 +1,106 @@
 #!/usr/bin/env python3
 """Measure how long the check of each crate takes from nothing, for the table of an entry in docs/CHANGES.md.
 
-    tools/measure.py COMMIT [CRATE ..]     a line for each crate: its name, processor seconds, seconds
-    tools/measure.py --table BEFORE AFTER  the lines of two such runs, kept in files, as rows of a table
+    tools/measure.py COMMIT [--lanes N] [--new]   a line for each crate: its name and its seconds
+    tools/measure.py --table BEFORE AFTER         the lines of two such runs, kept in files, as rows of a table
 
-A crate's time is that of `rt ci NAME`, its must-fail edits, tests and runs with it, once the crates below it are
-proved. Processor seconds are those of all processes that took part, so they differ little between a busy machine and
-an idle one, or with the number of cores; seconds are what it takes to wait for them. What earlier runs on the machine
-proved is not used: the commit is copied into a folder of its own, and a comment that no other copy has goes behind
-each crate's root file. Measure both commits on one machine, one after the other.
+A crate's seconds are the processor's, of all processes that took part in `rt ci NAME` once the crates below it were
+proved: its proof, its must-fail edits, its tests and its runs. They differ little between a busy machine and an idle
+one, or with the number of cores, where the time that somebody waits for them does. N crates that do not stand on one
+another are measured side by side, one if N is not given.
+
+What earlier runs on the machine proved is not used: the commit is copied into a folder of its own, and a comment that
+no other copy has goes behind each crate's root file. With --new the comments are left out, for a commit of which
+nothing was proved here before; what is proved is then kept for the gate. Measure both commits on one machine.
 """
 
+import argparse
 import os
 import re
-import resource
 import subprocess
 import sys
 import tempfile
 import time
+from concurrent.futures import FIRST_COMPLETED, ThreadPoolExecutor, wait
 from pathlib import Path
 
 ROOT = Path(__file__).resolve().parent.parent
 
 
 def listed(text):
-    """The crates of a crates.txt, each with those that it stands on."""
-    crates = {}
-    for line in text.splitlines():
-        name, colon, below = line.partition(":")
-        if colon and not line.startswith("#"):
-            crates[name.split()[0]] = below.split()
-    return crates
+    """The crates of a crates.txt, each with those of them that it stands on."""
+    lines = [line.partition(":") for line in text.splitlines() if ":" in line and not line.startswith("#")]
+    names = [head.split()[0] for head, _, _ in lines]
+    return {name: [it for it in below.split() if it in names] for name, (_, _, below) in zip(names, lines)}
 
 
-def in_order(crates):
-    """Those that others stand on first."""
-    ordered = []
-    while len(ordered) < len(crates):
-        ready = [name for name, below in crates.items()
-                 if name not in ordered and all(it in ordered or it not in crates for it in below)]
-        ordered += ready
-    return ordered
-
-
-def copied(commit, folder):
+def copied(commit, folder, new):
     """Puts the files of a commit into a folder, each crate unlike any that was proved before."""
     packed = subprocess.run(["git", "archive", commit], cwd=ROOT, check=True, capture_output=True).stdout
     subprocess.run(["tar", "x", "-C", folder], input=packed, check=True)
-    for name in ("lib.rt", "main.rt"):
+    for name in () if new else ("lib.rt", "main.rt"):
         for root in Path(folder).glob(f"crates/*/src/{name}"):
             root.write_text(root.read_text() + f"\n// measured {time.time_ns()}\n")
 
 
-def processor():
-    """The processor seconds of all processes that were waited for."""
-    used = resource.getrusage(resource.RUSAGE_CHILDREN)
-    return used.ru_utime + used.ru_stime
-
-
 def measured(folder, name):
-    """Processor seconds and seconds of one crate's check; the program ends where it does not pass."""
-    began, used = time.monotonic(), processor()
-    done = subprocess.run(["rt", "ci", name], cwd=folder, stdin=subprocess.DEVNULL, capture_output=True, text=True)
-    if done.returncode or not re.search(r"^\d+ passed, 0 failed", done.stdout, re.M):
-        sys.exit(f"measure: {name} is not proved:\n{done.stdout[-2000:]}{done.stderr[-2000:]}")
-    return processor() - used, time.monotonic() - began
+    """The processor seconds of one crate's check, and what it printed where it did not pass."""
+    with tempfile.TemporaryFile("w+") as log:
+        run = subprocess.Popen(["rt", "ci", name], cwd=folder, stdin=subprocess.DEVNULL, stdout=log, stderr=log)
+        _, status, used = os.wait4(run.pid, 0)
+        run.returncode = status
+        log.seek(0)
+        said = log.read()
+    passed = status == 0 and re.search(r"^\d+ passed, 0 failed", said, re.M)
+    return used.ru_utime + used.ru_stime, None if passed else said
 
 
-def measure(commit, chosen):
-    """Prints a line for each crate, those below the chosen ones too."""
-    with tempfile.TemporaryDirectory() as folder:
-        copied(commit, folder)
-        crates = listed((Path(folder) / "crates.txt").read_text())
-        for name in in_order(crates):
-            if not chosen or any(name in (it, *crates[it]) for it in chosen):
-                used, took = measured(folder, name)
-                print(f"{name} {used:.0f} {took:.0f}", flush=True)
+def measure(commit, lanes, new):
+    """Prints a line for each crate, once those that it stands on are proved."""
+    with tempfile.TemporaryDirectory() as folder, ThreadPoolExecutor(lanes) as pool:
+        copied(commit, folder, new)
+        left = listed((Path(folder) / "crates.txt").read_text())
+        done, running = set(), {}
+        while left or running:
+            for name in [it for it, below in left.items() if done.issuperset(below)]:
+                del left[name]
+                running[pool.submit(measured, folder, name)] = name
+            for ended in wait(running, return_when=FIRST_COMPLETED).done:
+                name, (used, said) = running.pop(ended), ended.result()
+                if said is not None:
+                    sys.exit(f"measure: {name} is not proved:\n{said[-3000:]}")
+                print(f"{name} {used:.0f}", flush=True)
+                done.add(name)
 
 
-def times(file):
+def seconds(file):
     """The lines of a run, by crate."""
-    rows = [line.split() for line in Path(file).read_text().splitlines()]
-    return {name: (used, took) for name, used, took in rows}
+    return {line.split()[0]: int(line.split()[1]) for line in Path(file).read_text().splitlines()}
 
 
 def table(before, after):
     """The rows of a table, for the crates of either run."""
-    old, new = times(before), times(after)
-    print("| crate | processor seconds before | after | seconds before | after |\n|---|---|---|---|---|")
+    old, new = seconds(before), seconds(after)
+    print("| crate | before | after |\n|---|---|---|")
     for name in {**old, **new}:
-        was, now = old.get(name, ("-", "-")), new.get(name, ("-", "-"))
-        print(f"| `{name}` | {was[0]} | {now[0]} | {was[1]} | {now[1]} |")
-    for name, rows in (("before", old), ("after", new)):
-        print(f"\n{name}: {sum(int(used) for used, _ in rows.values())} processor seconds in all")
+        print(f"| `{name}` | {old.get(name, 'not there')} | {new.get(name, 'gone')} |")
+    print(f"| together | {sum(old.values())} | {sum(new.values())} |")
 
 
 def main():
-    match sys.argv[1:]:
-        case ["--table", before, after]:
-            table(before, after)
-        case [commit, *chosen] if not commit.startswith("-"):
-            measure(commit, chosen)
-        case _:
-            sys.exit(__doc__)
+    parser = argparse.ArgumentParser(description=__doc__, formatter_class=argparse.RawDescriptionHelpFormatter)
+    parser.add_argument("commit", nargs="?")
+    parser.add_argument("--lanes", type=int, default=1)
+    parser.add_argument("--new", action="store_true")
+    parser.add_argument("--table", nargs=2, metavar=("BEFORE", "AFTER"))
+    chosen = parser.parse_args()
+    if chosen.table:
+        table(*chosen.table)
+    elif chosen.commit:
+        measure(chosen.commit, chosen.lanes, chosen.new)
+    else:
+        parser.error("name a commit, or two files after --table")
 
 
 if __name__ == "__main__":
-    os.environ["PYTHONUNBUFFERED"] = "1"
     main()
