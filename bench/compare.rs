@@ -119,7 +119,8 @@ pub fn compare(kind: u8, count: u64, random: &mut Random, bytes: &mut Bytes) -> 
         let fnv = rust(|| Fnv(start), Fnv, kind, low, high, part, entry);
         let sip = rust(|| SipHasher::new_with_keys(start, k1), |s| SipHasher::new_with_keys(s, k1), kind, low, high, part, entry);
         let ours = |later| unsafe {
-            (rt_fnv_kind(start, later, entry, here, low, high, bytes), rt_sip_kind(start, k1, later, entry, here, low, high, bytes))
+            let before = [later, entry];
+            (rt_fnv_kind(start, &before, here, low, high, bytes), rt_sip_kind(&[start, k1], &before, here, low, high, bytes))
         };
         let ((fnv_one, sip_one), (fnv_later, sip_later)) = (ours(0), ours(1));
         let name = KINDS[kind as usize];

@@ -4,7 +4,7 @@ use std::hash::{Hasher, SipHasher};
 use std::hint::black_box;
 use std::time::Instant;
 
-use shared::Fnv;
+use shared::{Fnv, combine_hashes, finished};
 
 mod compare;
 mod shared;
@@ -16,19 +16,15 @@ unsafe extern "C" {
     fn rt_sip_words(k0: u64, k1: u64, n: u64) -> u64;
     fn rt_fnv_strings(start: u64, bytes: &Bytes, len: u64, n: u64) -> u64;
     fn rt_sip_strings(k0: u64, k1: u64, bytes: &Bytes, len: u64, n: u64) -> u64;
-    fn rt_fnv_kind(start: u64, later: u64, entry: u64, kind: u8, low: u64, high: u64, bytes: &Bytes) -> u64;
-    fn rt_sip_kind(k0: u64, k1: u64, later: u64, entry: u64, kind: u8, low: u64, high: u64, bytes: &Bytes) -> u64;
+    fn rt_fnv_kind(start: u64, before: &[u64; 2], kind: u8, low: u64, high: u64, bytes: &Bytes) -> u64;
+    fn rt_sip_kind(keys: &[u64; 2], before: &[u64; 2], kind: u8, low: u64, high: u64, bytes: &Bytes) -> u64;
 }
 
+/// The words below n, each hashed. Their hashes are combined one after another: by exclusive or of them the compilers of
+/// both sides hash two at once, in twice the time.
 #[inline]
 fn words<H: Hasher>(build: impl Fn() -> H, n: u64) -> u64 {
-    let mut all = 0;
-    for i in 0..n {
-        let mut h = build();
-        h.write_u64(i);
-        all ^= h.finish();
-    }
-    all
+    (0..n).fold(0, |all, word| combine_hashes(all, finished(build(), |h| h.write_u64(word))))
 }
 
 #[inline]

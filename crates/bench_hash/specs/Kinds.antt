@@ -1,8 +1,9 @@
 -- The values that are compared, each by the number of its kind.
-use Rattle.std.specs.Prelude.{ℕ, ◌%◌, ◌^◌, Bool, cond, ◌&&◌, ◌||◌, nat_lt, ◌==◌, List, [], ◌∷◌, Some, None, Option}
-use Rattle.hash_state.specs.Combine.{later}
+use Rattle.std.specs.Prelude.{ℕ, ◌%◌, ◌^◌, Bool, cond, ◌&&◌, ◌||◌, nat_lt, ◌==◌, List, [], ◌∷◌, Some, None, Option, slice_index}
+use Rattle.hash_state.specs.Combine.{entry_number}
 use Rattle.hash_state.specs.Values.{binary, boolean, float, nothing, number, seeded_float, text}
-use Rattle.hash_state.specs.Writes.{Pair, Write}
+use Rattle.hash_state.specs.Sip.{siphash}
+use Rattle.hash_state.specs.Writes.{Pair, Write, joined}
 
 -- the kinds from 0 on: a Boolean; numbers of 1, 2, 4 and 8 bytes; floats of 2, 4 and 8; text; binary; a short view and a long one; each other number is nothing
 abbrev pub told : ℕ → ℕ → ℕ → List ℕ → List Write
@@ -31,7 +32,18 @@ seed_told kind low high bytes =
 abbrev pub seeding : ℕ → Bool
 seeding kind = (nat_lt 0 kind && nat_lt kind 8) || (kind == 10) || (kind == 11)
 
+-- the entry that two numbers say: none unless the first is 1, else the second
+abbrev pub entry_of : List ℕ → Option ℕ
+entry_of before = cond (slice_index before 0 == 1) (Some (slice_index before 1)) None
+
+-- SipHash-2-4 of writes, with the first two of the numbers for the words of its key
+abbrev pub sip_under : List ℕ → List Write → ℕ
+sip_under keys ws = siphash (slice_index keys 0) (slice_index keys 1) (joined ws)
+
+-- the same with a seed for the first word
+abbrev pub sip_seeded : List ℕ → ℕ → List Write → ℕ
+sip_seeded keys seed ws = siphash seed (slice_index keys 1) (joined ws)
+
 -- the number of a value, with no column before it or after an entry
 abbrev pub kind_number : (List Write → ℕ) → (ℕ → List Write → ℕ) → Option ℕ → ℕ → ℕ → ℕ → List ℕ → ℕ
-kind_number ONE SEED None kind low high bytes = ONE (told kind low high bytes)
-kind_number ONE SEED (Some e) kind low high bytes = later (seeding kind) (SEED e (seed_told kind low high bytes)) (ONE (told kind low high bytes)) e
+kind_number ONE SEED before kind low high bytes = entry_number ONE SEED before (seeding kind) (told kind low high bytes) (seed_told kind low high bytes)

@@ -1,9 +1,9 @@
 // Hashing for C to call, so that it can be timed beside Rust's and compared with it.
 #![tactic(auto)]
 
-ghost use Rattle.std.specs.Prelude.{◌≡◌, [], ◌∷◌, ◌%◌, ◌==◌, Some, None, cond, min, drop, take};
-ghost use Rattle.bench_hash.specs.Kinds.{kind_number};
-ghost use Rattle.bench_hash.specs.Rows.{rows};
+ghost use Rattle.std.specs.Prelude.{◌≡◌, [], ◌∷◌, ◌%◌, min, drop, take};
+ghost use Rattle.bench_hash.specs.Kinds.{entry_of, kind_number, sip_seeded, sip_under};
+ghost use Rattle.bench_hash.specs.Rows.{combined, rows};
 ghost use Rattle.hash_state.specs.Fnv.{fnv1a};
 ghost use Rattle.hash_state.specs.Sip.{siphash};
 ghost use Rattle.hash_state.specs.Values.{number};
@@ -11,19 +11,19 @@ ghost use Rattle.hash_state.specs.Writes.{Bytes, joined};
 
 use hash_state::{
     Binary, BuildHasher, Float, Fnv1aState, HashState, HashValue, Hasher, Nothing, SipHashState,
-    Text, View, hash_entry,
+    Text, View, combine_hashes, hash_entry,
 };
 
-// The hashes of the words below n, made one by exclusive or.
+// The hashes of the words below n, combined one after another. An exclusive or of them lets the compilers of both sides
+// hash two words at once, by instructions that take twice as long over them as one word after the other does.
 fn words<S: BuildHasher>(state: &S, n: u64) -> u64
-    ensures { result ≡ rows (λ i. S.BuildHasher.one state.now (number 8 i)) n }
+    ensures { result ≡ combined (λ i. S.BuildHasher.one state.now (number 8 i)) n }
 {
-    (0..n)
-        .map(|word| word.hash_one(state))
-        .fold(0, |all, word| all ^ word)
+    (0..n).fold(0, |all, word| combine_hashes(all, word.hash_one(state)))
 }
 
-// The same of n byte strings, which begin at the places 0 to 63 in turn.
+// The hashes of n byte strings, made one by exclusive or. The strings have `len` bytes, at most 16,000, and begin at the
+// places 0 to 63 in turn.
 fn strings<S: BuildHasher>(state: &S, bytes: &[u8; 16384], len: u64, n: u64) -> u64
     ensures { result ≡ rows (λ i. S.BuildHasher.one state.now (Bytes (take (min len 16000) (drop (i % 64) bytes.now)) ∷ [])) n }
 {
@@ -38,22 +38,23 @@ fn strings<S: BuildHasher>(state: &S, bytes: &[u8; 16384], len: u64, n: u64) -> 
         .fold(0, |all, string| all ^ string)
 }
 
-// Two functions of each sort, since C has no generics, and two numbers for an entry that may not be there, since it has no
-// `Option`.
+// FNV-1a of n words, from a start. Here and below there are two functions of each sort, since C has no generics.
 #[unsafe(no_mangle)]
 pub extern "C" fn rt_fnv_words(start: u64, n: u64) -> u64
-    ensures { result ≡ rows (λ i. fnv1a start (joined (number 8 i))) n }
+    ensures { result ≡ combined (λ i. fnv1a start (joined (number 8 i))) n }
 {
     words(&Fnv1aState::from_start(start), n)
 }
 
+// SipHash-2-4 of n words, under the two words of a key.
 #[unsafe(no_mangle)]
 pub extern "C" fn rt_sip_words(k0: u64, k1: u64, n: u64) -> u64
-    ensures { result ≡ rows (λ i. siphash k0 k1 (joined (number 8 i))) n }
+    ensures { result ≡ combined (λ i. siphash k0 k1 (joined (number 8 i))) n }
 {
     words(&SipHashState::new(k0, k1), n)
 }
 
+// FNV-1a of n byte strings of `len` bytes each, from a start.
 #[unsafe(no_mangle)]
 pub extern "C" fn rt_fnv_strings(start: u64, bytes: &[u8; 16384], len: u64, n: u64) -> u64
     ensures { result ≡ rows (λ i. fnv1a start (joined (Bytes (take (min len 16000) (drop (i % 64) bytes.now)) ∷ []))) n }
@@ -61,6 +62,7 @@ pub extern "C" fn rt_fnv_strings(start: u64, bytes: &[u8; 16384], len: u64, n: u
     strings(&Fnv1aState::from_start(start), bytes, len, n)
 }
 
+// SipHash-2-4 of the same strings, under the two words of a key.
 #[unsafe(no_mangle)]
 pub extern "C" fn rt_sip_strings(k0: u64, k1: u64, bytes: &[u8; 16384], len: u64, n: u64) -> u64
     ensures { result ≡ rows (λ i. siphash k0 k1 (joined (Bytes (take (min len 16000) (drop (i % 64) bytes.now)) ∷ []))) n }
@@ -68,8 +70,8 @@ pub extern "C" fn rt_sip_strings(k0: u64, k1: u64, bytes: &[u8; 16384], len: u64
     strings(&SipHashState::new(k0, k1), bytes, len, n)
 }
 
-// The hash of a value that is made of the words: low ones, high ones, or so many of the bytes. The kind is a number,
-// since C calls with it.
+// The hash of a value that is made of the two words, or of as many of the bytes as the low word says. The kind is a
+// number, since C calls with it.
 fn hash_kind<S: HashState>(
     state: &S,
     before: Option<u64>,
@@ -98,21 +100,28 @@ fn hash_kind<S: HashState>(
     }
 }
 
+// The entry that two numbers say: none unless the first is 1, else the second. C has no `Option`.
+fn entry(before: &[u64; 2]) -> Option<u64>
+    ensures { result ≡ entry_of before.now }
+{
+    (before[0] == 1).then_some(before[1])
+}
+
+// FNV-1a of one value, from a start: with no column before it, or after an entry, as `before` says.
 #[unsafe(no_mangle)]
 pub extern "C" fn rt_fnv_kind(
     start: u64,
-    later: u64,
-    entry: u64,
+    before: &[u64; 2],
     kind: u8,
     low: u64,
     high: u64,
     bytes: &[u8; 16384],
 ) -> u64
-    ensures { result ≡ kind_number (λ ws. fnv1a start (joined ws)) (λ seed ws. fnv1a seed (joined ws)) (cond (later == 1) (Some entry) None) kind low high (take (min low 16384) bytes.now) }
+    ensures { result ≡ kind_number (λ ws. fnv1a start (joined ws)) (λ seed ws. fnv1a seed (joined ws)) (entry_of before.now) kind low high (take (min low 16384) bytes.now) }
 {
     hash_kind(
         &Fnv1aState::from_start(start),
-        (later == 1).then_some(entry),
+        entry(before),
         kind,
         low,
         high,
@@ -120,22 +129,21 @@ pub extern "C" fn rt_fnv_kind(
     )
 }
 
+// SipHash-2-4 of the same value, under the two words of a key.
 #[unsafe(no_mangle)]
 pub extern "C" fn rt_sip_kind(
-    k0: u64,
-    k1: u64,
-    later: u64,
-    entry: u64,
+    keys: &[u64; 2],
+    before: &[u64; 2],
     kind: u8,
     low: u64,
     high: u64,
     bytes: &[u8; 16384],
 ) -> u64
-    ensures { result ≡ kind_number (λ ws. siphash k0 k1 (joined ws)) (λ seed ws. siphash seed k1 (joined ws)) (cond (later == 1) (Some entry) None) kind low high (take (min low 16384) bytes.now) }
+    ensures { result ≡ kind_number (sip_under keys.now) (sip_seeded keys.now) (entry_of before.now) kind low high (take (min low 16384) bytes.now) }
 {
     hash_kind(
-        &SipHashState::new(k0, k1),
-        (later == 1).then_some(entry),
+        &SipHashState::new(keys[0], keys[1]),
+        entry(before),
         kind,
         low,
         high,

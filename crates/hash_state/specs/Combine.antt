@@ -1,5 +1,6 @@
 -- Two numbers made one.
-use Rattle.std.specs.Prelude.{◌≡◌, ℕ, ◌+◌, ◌*◌, ◌%◌, ◌^◌, ◌<◌, Bool, cond}
+use Rattle.std.specs.Prelude.{◌≡◌, ℕ, ◌+◌, ◌*◌, ◌%◌, ◌^◌, ◌<◌, Bool, List, Option, Some, None, cond}
+use Rattle.hash_state.specs.Writes.{Write}
 
 -- the number of l and r together, in 64 bits
 abbrev pub C : ℕ → ℕ → ℕ
@@ -13,3 +14,8 @@ OneToOne =
 -- what a later column makes of its entry e: the number of the state seeded with e, or the value's own number combined with e
 abbrev pub later : Bool → ℕ → ℕ → ℕ → ℕ
 later seeds seeded one e = cond seeds seeded (C one e)
+
+-- the number of a value in a column: its own, or what a later column makes of the entry that stands for the columns before
+abbrev pub entry_number : (List Write → ℕ) → (ℕ → List Write → ℕ) → Option ℕ → Bool → List Write → List Write → ℕ
+entry_number ONE SEED None seeds writes seed_writes = ONE writes
+entry_number ONE SEED (Some e) seeds writes seed_writes = later seeds (SEED e seed_writes) (ONE writes) e

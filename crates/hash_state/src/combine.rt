@@ -2,7 +2,8 @@
 ghost use Rattle.std.specs.Prelude.{◌≡◌};
 ghost use Rattle.hash_state.specs.Combine.{C, OneToOne};
 
-// `C` of the definitions: with one of the two held, different words for the other give different numbers.
+// The number of two hashes together, the first before the second, in 64 bits: `C` of the definitions. With one of them
+// held, different words for the other give different numbers.
 pub fn combine_hashes(l: u64, r: u64) -> u64
     ensures number { result ≡ C l r }
     ensures apart { OneToOne }

@@ -6,7 +6,9 @@ ghost use Rattle.hash_state.specs.Writes.{joined};
 
 use crate::hasher::{BuildHasher, HashState, Hasher};
 
-// Its writes stand where they are called, so that the hash stays in a register through a row.
+// A hasher of FNV-1a with 64 bits, as Fowler, Noll and Vo publish it: the hash so far, into which each byte goes by an
+// exclusive or and a product. Its writes stand where they are called, so that the hash stays in a register through a
+// row.
 #[derive(Clone, Copy)]
 pub struct Fnv1aHasher {
     hash: u64,
@@ -27,22 +29,22 @@ fn hashed(hash: u64, bytes: &[u8]) -> u64
     bytes.iter().fold(hash, |hash, byte| step(hash, *byte))
 }
 
-// The same of a string, four bytes a turn, where each turn may end after any of them: of strings of any length only the
-// end of the loop is foretold wrongly. A loop of one byte a turn is unrolled by the compiler, and ends twice.
+// The same of a string. If its length is odd, a byte goes first, which is chosen without a branch; then two pairs a turn,
+// and the loop may end after either. So two bytes share a comparison, and of strings of any length only the end of the
+// loop is mispredicted. The compiler unrolls a loop of one pair a turn, which then ends twice.
 #[inline(always)]
 fn hashed_string(hash: u64, bytes: &[u8]) -> u64
     ensures { result ≡ fnv1a hash bytes.now }
 {
-    let mut hash = hash;
-    let mut rest = bytes;
-    while let [a, after @ ..] = rest {
-        hash = step(hash, *a);
-        let [b, after @ ..] = after else { break };
-        hash = step(hash, *b);
-        let [c, after @ ..] = after else { break };
-        hash = step(hash, *c);
-        let [d, after @ ..] = after else { break };
-        hash = step(hash, *d);
+    let [first, ..] = bytes else { return hash };
+    let odd = bytes.len() % 2;
+    let one = step(hash, *first);
+    let mut hash = if odd == 1 { one } else { hash };
+    let mut rest = &bytes[odd..];
+    while let [a, b, after @ ..] = rest {
+        hash = step(step(hash, *a), *b);
+        let [c, d, after @ ..] = after else { break };
+        hash = step(step(hash, *c), *d);
         rest = after;
     }
     hash
@@ -51,7 +53,7 @@ fn hashed_string(hash: u64, bytes: &[u8]) -> u64
 impl Hasher for Fnv1aHasher {
     ghost meaning = { λ h ws. fnv1a h.hash (joined ws) };
 
-    // A method for each width, as the Rust's trait has them: arrays of bytes differ in type by their length.
+    // Words go in by their bytes, the lowest first.
     #[inline(always)]
     fn write_u8(&mut self, v: u8) {
         self.hash = hashed(self.hash, &[v]);
@@ -89,7 +91,7 @@ impl Hasher for Fnv1aHasher {
     }
 }
 
-// Hashers that start at one number.
+// The hash state of FNV-1a: its hashers start at one number of 64 bits, which the publication calls the offset basis.
 #[derive(Clone, Copy)]
 pub struct Fnv1aState {
     start: u64,
@@ -97,13 +99,14 @@ pub struct Fnv1aState {
 }
 
 impl Fnv1aState {
-    // The standard start.
+    // The start that is published, 14695981039346656037.
     pub fn new() -> Fnv1aState
         ensures { result.start ≡ offset_basis }
     {
         Fnv1aState::from_start(14695981039346656037)
     }
 
+    // Any start; each word of 64 bits is one.
     pub fn from_start(start: u64) -> Fnv1aState
         ensures { result.start ≡ start }
     {
@@ -123,7 +126,7 @@ impl BuildHasher for Fnv1aState {
     }
 }
 
-// The seed is the start.
+// A seed takes the place of the start.
 impl HashState for Fnv1aState {
     type SeededState = Fnv1aState;
 

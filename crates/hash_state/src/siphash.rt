@@ -9,6 +9,8 @@ mod stream;
 pub use keys::SipHashState;
 use rounds::State;
 
+// A hasher of SipHash-2-4, as Aumasson and Bernstein publish it: two rounds for each word of eight bytes, four at the
+// end.
 #[derive(Clone, Copy)]
 pub struct SipHasher {
     state: State,

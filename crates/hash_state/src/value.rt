@@ -1,6 +1,6 @@
 // The values that are hashed.
-ghost use Rattle.std.specs.Prelude.{◌≡◌, ℕ, Bool, true, false, List, ◌∷◌, ◌++◌, MatchOption};
-ghost use Rattle.hash_state.specs.Combine.{later};
+ghost use Rattle.std.specs.Prelude.{◌≡◌, ℕ, Bool, true, false, List, ◌∷◌, ◌++◌};
+ghost use Rattle.hash_state.specs.Combine.{entry_number, later};
 ghost use Rattle.hash_state.specs.Values.{boolean, number, float_bits, float, seeded_float, text, binary, nothing};
 ghost use Rattle.hash_state.specs.View.{view};
 ghost use Rattle.hash_state.specs.Writes.{Write, Word, Bytes, le_bytes};
@@ -14,6 +14,7 @@ const SEEDS: bool = true;
 
 const COMBINES: bool = false;
 
+// A value that a column can hold: what it tells a hasher, as Rust's `Hash` does, and what a later column does with it.
 pub trait HashValue {
     // What the value tells a hasher under ONE.
     ghost writes: { Self → List Write };
@@ -24,15 +25,19 @@ pub trait HashValue {
     // Whether a later column seeds with its entry; else it combines.
     ghost seeding: { Bool };
 
+    // The same as a truth value.
     fn seeds() -> bool
         ensures { result ≡ seeding };
 
+    // Tells a hasher the value, where no seed is.
     fn hash<H: Hasher>(&self, hasher: &mut H)
         ensures { (ws : List Write) → H.Hasher.meaning hasher.new ws ≡ H.Hasher.meaning hasher.old (writes self.now ++ ws) };
 
+    // Tells a hasher from a seed the value.
     fn hash_write<H: Hasher>(&self, hasher: &mut H)
         ensures { (ws : List Write) → H.Hasher.meaning hasher.new ws ≡ H.Hasher.meaning hasher.old (seed_writes self.now ++ ws) };
 
+    // The value's own number: ONE of what it tells.
     #[inline(always)]
     fn hash_one<S: BuildHasher>(&self, state: &S) -> u64
         ensures { result ≡ S.BuildHasher.one state.now (writes self.now) }
@@ -43,7 +48,7 @@ pub trait HashValue {
     }
 }
 
-// The hash of a value in a later column, where the entry stands for the columns before.
+// The hash of a value in a later column, where the entry, any word of 64 bits, stands for the columns before.
 #[inline(always)]
 pub fn hash_later<V: HashValue, S: HashState>(value: &V, state: &S, entry: u64) -> u64
     ensures { result ≡ later V.HashValue.seeding (S.HashState.seeded state.now entry (V.HashValue.seed_writes value.now)) (S.BuildHasher.one state.now (V.HashValue.writes value.now)) entry }
@@ -59,7 +64,7 @@ pub fn hash_later<V: HashValue, S: HashState>(value: &V, state: &S, entry: u64) 
 
 // The hash of a value in a column, where the entry stands for the columns before, if there are any.
 pub fn hash_entry<V: HashValue, S: HashState>(value: &V, state: &S, before: Option<u64>) -> u64
-    ensures { MatchOption before (result ≡ S.BuildHasher.one state.now (V.HashValue.writes value.now)) (λ entry. result ≡ later V.HashValue.seeding (S.HashState.seeded state.now entry (V.HashValue.seed_writes value.now)) (S.BuildHasher.one state.now (V.HashValue.writes value.now)) entry) }
+    ensures { result ≡ entry_number (S.BuildHasher.one state.now) (S.HashState.seeded state.now) before V.HashValue.seeding (V.HashValue.writes value.now) (V.HashValue.seed_writes value.now) }
 {
     match before {
         None => value.hash_one(state),
@@ -69,14 +74,18 @@ pub fn hash_entry<V: HashValue, S: HashState>(value: &V, state: &S, before: Opti
 
 // A value that tells a hasher the same with and without a seed.
 pub trait PlainValue {
+    // What it tells.
     ghost told: { Self → List Write };
 
+    // Whether a later column seeds with its entry; else it combines.
     ghost seeding: { Bool };
 
-    // A function, since the check gives a trait's constant no clause where the type has a lifetime.
+    // The same as a truth value. A function, since the check gives a trait's constant no clause where the type has a
+    // lifetime.
     fn later() -> bool
         ensures { result ≡ seeding };
 
+    // Tells a hasher the value.
     fn tell<H: Hasher>(&self, hasher: &mut H)
         ensures { (ws : List Write) → H.Hasher.meaning hasher.new ws ≡ H.Hasher.meaning hasher.old (told self.now ++ ws) };
 }
@@ -111,6 +120,7 @@ impl<T: PlainValue> HashValue for T {
     }
 }
 
+// A Boolean: the byte 0 or 1.
 impl PlainValue for bool {
     ghost told = { boolean };
 
@@ -133,6 +143,7 @@ pub trait Integer: Copy {
     // The number itself.
     ghost bits: { Self → ℕ };
 
+    // Tells a hasher the number as one word of that width.
     fn write_word<H: Hasher>(self, hasher: &mut H)
         ensures { (ws : List Write) → H.Hasher.meaning hasher.new ws ≡ H.Hasher.meaning hasher.old (Word width (bits self) ∷ ws) };
 }
@@ -177,6 +188,7 @@ impl Integer for u64 {
     }
 }
 
+// A whole number, signed ones by their bits: one word.
 impl<T: Integer> PlainValue for T {
     ghost told = { λ v. number T.Integer.width (T.Integer.bits v) };
 
@@ -237,14 +249,18 @@ impl FloatBits for u64 {
     }
 }
 
-// A float by its bits.
+// A float of IEEE 754 by its bits, a number of 2, 4 or 8 bytes. Each bit pattern is one: NaNs are hashed by their bits,
+// and the zeros of both signs alike.
 #[derive(Clone, Copy)]
 pub struct Float<T>(pub T);
 
+// A float of 2 bytes.
 pub type Float16 = Float<u16>;
 
+// A float of 4 bytes.
 pub type Float32 = Float<u32>;
 
+// A float of 8 bytes.
 pub type Float64 = Float<u64>;
 
 impl<T: FloatBits> HashValue for Float<T> {
@@ -267,7 +283,8 @@ impl<T: FloatBits> HashValue for Float<T> {
     }
 }
 
-// The bytes of a text.
+// A text by its bytes of UTF-8. It tells them and then the byte 255, as Rust's `str` does; nothing asks that they are
+// UTF-8.
 #[derive(Clone, Copy)]
 pub struct Text<'a>(pub &'a [u8]);
 
@@ -288,7 +305,7 @@ impl PlainValue for Text<'_> {
     }
 }
 
-// Bytes of any kind.
+// A byte string. It tells its length as a word of 8 bytes, and then its bytes, as Rust's `[u8]` does.
 #[derive(Clone, Copy)]
 pub struct Binary<'a>(pub &'a [u8]);
 
@@ -310,11 +327,12 @@ impl PlainValue for Binary<'_> {
     }
 }
 
-// A view, by its own 16 bytes as two words, the low one first, where they hold what is viewed (up to 12 bytes), and
-// else by the bytes that it views.
+// A view of a text or a byte string. Which of the two it is, is for its maker.
 #[derive(Clone, Copy)]
 pub enum View<'a> {
+    // Of up to 12 bytes, which the view itself holds: its own 16 bytes as two words, the low one first.
     Inline(u64, u64),
+    // Of more: the bytes that it views.
     Long(&'a [u8]),
 }
 
@@ -338,7 +356,7 @@ impl PlainValue for View<'_> {
     }
 }
 
-// The value of a column that has no values.
+// The value of a column of the Null type, which has none: the 4-byte word 1.
 #[derive(Clone, Copy)]
 pub struct Nothing;
 

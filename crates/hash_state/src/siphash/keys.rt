@@ -8,7 +8,7 @@ use super::SipHasher;
 use super::rounds::State;
 use crate::hasher::{BuildHasher, HashState};
 
-// The two words of a key.
+// The hash state of SipHash-2-4: the key of 128 bits, as two words.
 #[derive(Clone, Copy)]
 pub struct SipHashState {
     k0: u64,
@@ -16,6 +16,7 @@ pub struct SipHashState {
 }
 
 impl SipHashState {
+    // The state of a key: k0 is its first eight bytes, the lowest first, and k1 its last eight. Each key is one.
     pub fn new(k0: u64, k1: u64) -> SipHashState
         ensures first { result.k0 ≡ k0 }
         ensures second { result.k1 ≡ k1 }
@@ -41,7 +42,7 @@ impl BuildHasher for SipHashState {
     }
 }
 
-// The seed stands for the first key word.
+// A seed takes the place of the first key word.
 impl HashState for SipHashState {
     type SeededState = SipHashState;
 

@@ -6,6 +6,7 @@ ghost use Rattle.hash_state.specs.Stream.{finished, seen};
 
 use super::read::word;
 
+// The internal state: four words of 64 bits.
 #[derive(Clone, Copy)]
 pub struct State {
     v0: u64,
@@ -15,6 +16,7 @@ pub struct State {
 }
 
 impl State {
+    // The state of a key, before any word.
     #[tactic(auto, unfolding(crate::specs::Sip::initial))]
     pub fn keyed(k0: u64, k1: u64) -> State
         ensures { seen result ≡ initial k0 k1 }
@@ -45,6 +47,7 @@ impl State {
         }
     }
 
+    // The state after one word of the message.
     #[tactic(auto, unfolding(crate::specs::Sip::compress))]
     pub fn compressed(self, m: u64) -> State
         ensures { seen result ≡ compress (seen self) m }
@@ -57,6 +60,7 @@ impl State {
         State { v0: t.v0 ^ m, ..t }
     }
 
+    // The hash, once the last word is in.
     #[tactic(auto, unfolding(crate::specs::Sip::finalize))]
     pub fn finalized(self) -> u64
         ensures { result ≡ finalize (seen self) }

@@ -71,7 +71,7 @@ impl Hasher for SipHasher {
 
     ghost meaning = { λ h ws. told h (joined ws) };
 
-    // A method for each width, as the Rust's trait has them.
+    // Words go in by their bytes, the lowest first.
     fn write_u8(&mut self, v: u8) {
         *self = self.pushed(1, u64::from(v));
     }
