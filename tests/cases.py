@@ -10,9 +10,8 @@ Of a run, whether a call is accepted is written here too. Its numbers are those
 of tests/runs.py, a ledger that knows no images: what the rows of an image mean
 is written beside it.
 
-    tests/cases.py [DIRECTORY]
-
-writes DIRECTORY/stdin and DIRECTORY/stdout (crates/rowhash if none is given).
+    tests/cases.py [DIRECTORY]            writes DIRECTORY/stdin, stdout and data/ (crates/rowhash if none is given)
+    tests/cases.py --check [DIRECTORY]    tries whether they are up to date
 
 In `image([record, ..], part, ..)` the parts stand one after the other behind
 the records, so the first is at place 40 with one node, 76 with two, 112 with
@@ -27,6 +26,7 @@ ROOT = pathlib.Path(__file__).resolve().parent.parent
 sys.path[:0] = [str(ROOT / "tools"), str(ROOT / "tests")]
 sys.dont_write_bytecode = True
 
+import make_example  # noqa: E402
 from images import (  # noqa: E402
     BINARY, BOOLEAN, DICTIONARY, FIXED_SIZE_BINARY, FIXED_SIZE_LIST, FLOAT, LIST,
     LIST_VIEW, MAP, NULL, NUMBER, RUN_END, STRUCT, UTF8, VIEW,
@@ -720,12 +720,21 @@ line("slots 0 0", "not understood")
 slot(1, 2, "number 2 300")  # none of them changed the image
 
 title("an image from a file: the example, of which the answers are those that its own description gives")
-line("image-file passes.img", "admitted 19")
+line("image-file passes.img", "admitted 28")
 slot(0, 5, "null")
-slot(1, 0, "view 764 4e4f4141203139")
-slot(1, 3, "view 888 46554e637562652d312028414f2d373329")
+slot(1, 0, "view 1108 4e4f4141203139")
+slot(1, 3, "view 1232 46554e637562652d312028414f2d373329")
 slot(2, 1, "number 8 1790002810")
 slot(3, 3, "float 4 80000000")
+slot(19, 0, "kind 12")
+slot(19, 5, "null")
+slot(21, 1, "binary 2014")
+slot(21, 3, "binary 2026 86a240404040ff01")
+slot(22, 4, "text 2124 433a5c7265635c35")
+slot(24, 3, "number 2 62841")  # -2695
+slot(25, 7, "kind 13")
+slot(26, 1, "float 2 8000")
+slot(27, 5, "binary 2505 deadbeef")
 line("image-file no-such.img", "unreadable no-such.img")
 line("image-file empty.img", "refused 1 0")  # no bytes at all
 slot(0, 0, "kind 11")  # and the example stays
@@ -1140,7 +1149,7 @@ read_all()
 
 
 def main():
-    """Check the lists against each other and write them."""
+    """Check the lists against each other, and write them or compare them with what is stored."""
     asked = [text for text in lines if text and not text.startswith("#")]
     assert asked == commands and len(commands) == len(answers)
     forms = {"admitted", "refused", "null", "boolean", "number", "float", "text", "binary", "view", "kind", "not", "unreadable",
@@ -1156,13 +1165,22 @@ def main():
     refusals = {answer.split()[1] for answer in answers if answer.startswith("refused")}
     assert refusals == {str(n) for n in range(1, 18)}
 
-    directory = pathlib.Path(sys.argv[1]) if len(sys.argv) > 1 else ROOT / "crates" / "rowhash"
-    directory.mkdir(parents=True, exist_ok=True)
-    (directory / "data").mkdir(exist_ok=True)
-    (directory / "data" / "passes.img").write_bytes((ROOT / "examples" / "passes.img").read_bytes())
-    (directory / "data" / "empty.img").write_bytes(b"")
-    (directory / "stdin").write_text("\n".join(lines).lstrip("\n") + "\n")
-    (directory / "stdout").write_text("\n".join(answers) + "\n")
+    checking = "--check" in sys.argv
+    directories = [word for word in sys.argv[1:] if word != "--check"]
+    directory = pathlib.Path(directories[0]) if directories else ROOT / "crates" / "rowhash"
+    files = {
+        "stdin": ("\n".join(lines).lstrip("\n") + "\n").encode(),
+        "stdout": ("\n".join(answers) + "\n").encode(),
+        "data/passes.img": make_example.build.image(),
+        "data/empty.img": b"",
+    }
+    for name, content in files.items():
+        file = directory / name
+        if not checking:
+            file.parent.mkdir(parents=True, exist_ok=True)
+            file.write_bytes(content)
+        elif file.read_bytes() != content:
+            sys.exit(f"{file} is not what tests/cases.py writes")
     print(f"{len(commands)} commands, {len(answers)} answers")
 
 
