@@ -1,12 +1,13 @@
 #!/usr/bin/env python3
 """Row numbers of columns: images with the number of each row.
 
-    tests/columns.py [DIRECTORY]            writes DIRECTORY/stdin (crates/vectors if none is given)
-    tests/columns.py --check [DIRECTORY]    tries the images and whether the file is up to date
+    tests/columns.py [DIRECTORY]            writes DIRECTORY/stdin and stdout (crates/vectors if none is given)
+    tests/columns.py --check [DIRECTORY]    tries the images and whether the files are up to date
 
-crates/vectors reads the file and compares; tests/scripts.py writes the end of it,
-from the line RUNS on. Both ways end with a table of what
-the cases cover, and fail where they miss some of what `required` asks for.
+crates/vectors reads stdin and compares, and prints how much there was, as stdout
+has it; tests/scripts.py writes the end of stdin, from the line RUNS on, and the
+last line of stdout. Both ways end with a table of what the cases cover, and fail
+where they miss some of what `required` asks for.
 
 A case begins with columns by what they mean: each row is a slot, a tree of
 values (tests/model.py). The numbers are the model's, worked out from these
@@ -1277,21 +1278,29 @@ def check(image, columns):
 # ---------------------------------------------------------------------------
 # How this script ends, and tests/scripts.py.
 
+# what crates/vectors prints of the published vectors, which its source has
+PUBLISHED = ["FNV-1a: 16 vectors, each in 12 ways: 192 of 192 hashes agree",
+             "SipHash-2-4: 64 vectors, each in 12 ways: 768 of 768 hashes agree"]
 
-def store(part, text):
-    """Writes a part of stdin, or checks it and the images: 0 before the line RUNS, or 1 after it."""
+
+def store(part, text, printed):
+    """Writes a part of stdin and its line of stdout, or checks them and the images: 0 before the line RUNS, or 1 after it."""
     checking = "--check" in sys.argv
     directories = [word for word in sys.argv[1:] if word != "--check"]
     directory = pathlib.Path(directories[0]) if directories else ROOT / "crates" / "vectors"
-    file = directory / "stdin"
+    file, answers = directory / "stdin", directory / "stdout"
     before, _, after = file.read_text().partition(RUNS) if file.exists() else ("", "", "")
+    there = answers.read_text().splitlines() if answers.exists() else []
+    wanted = "".join(f"{line}\n" for line in (PUBLISHED + [printed] + there[3:] if part == 0 else there[:3] + [printed]))
     if checking:
         for image, nodes in images:
             check(image, nodes)
         assert text == (before, after)[part], f"{file} is not up to date"
+        assert answers.read_text() == wanted, f"{answers} is not up to date"
         return
     directory.mkdir(parents=True, exist_ok=True)
     file.write_text(text + RUNS + after if part == 0 else before + RUNS + text)
+    answers.write_text(wanted)
 
 
 def summary(text):
@@ -1304,13 +1313,15 @@ def summary(text):
         print(f"{told(counted)}  {title}")
         total.update(counted)
     print(f"{told(total)}, {len(text):,} bytes")
+    return total
 
 
-def finish(part, text, wanted):
-    """Tells how much there is and what it covers of what is wanted, and writes or checks this part of the file."""
-    summary(text)
+def finish(part, text, wanted, printed):
+    """Tells how much there is and what it covers of what is wanted, and writes or checks this part of both files; of
+    `printed`, crates/vectors' line of it, the counts are put in."""
+    total = summary(text)
     table(wanted)
-    store(part, text)
+    store(part, text, printed.format(**total))
 
 
 def main():
@@ -1331,7 +1342,7 @@ def main():
     cases_of_trees()
     cases_of_lists_of_rows()
     text = "\n".join(["# tests/columns.py writes these lines and says what they are"] + lines) + "\n\n"
-    finish(0, text, required())
+    finish(0, text, required(), "columns: {lines} columns of {images} images: {numbers} numbers agree")
 
 
 if __name__ == "__main__":

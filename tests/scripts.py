@@ -1,8 +1,9 @@
 #!/usr/bin/env python3
 """Runs: lists of calls with the answer to each, and the words that are left.
 
-    tests/scripts.py [DIRECTORY]            writes the runs into DIRECTORY/stdin (crates/vectors if none is given)
-    tests/scripts.py --check [DIRECTORY]    tries the images and whether the file is up to date
+    tests/scripts.py [DIRECTORY]            writes the runs into DIRECTORY/stdin, and their line of stdout
+                                            (crates/vectors if none is given)
+    tests/scripts.py --check [DIRECTORY]    tries the images and whether the files are up to date
 
 They stand in the file behind the columns of tests/columns.py. crates/vectors
 makes the calls of each run by one `runs::replay::replay`, and compares. Both
@@ -810,7 +811,7 @@ def main():
     runs_that_end_early()
     runs_of_limits()
     runs_at_random()
-    finish(1, "\n".join(lines[1:]) + "\n", required())
+    finish(1, "\n".join(lines[1:]) + "\n", required(), "runs: {runs} runs of {calls} calls: all answers agree")
 
 
 if __name__ == "__main__":
