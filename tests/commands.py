@@ -5,8 +5,8 @@
 
 What `show` has to print of the example is what tools/make_example.py says of it, and the numbers of `hash` are those
 of tests/model.py over the slots that these descriptions mean, with the rows of other nodes put in. The names of types,
-refusals and errors are written here, and the help in tests/help.txt. It ends with status 1 where a command does
-otherwise.
+refusals and errors are written here, the help in tests/help.txt, and some answers of `replay` in the documents. It ends
+with status 1 where a command does otherwise.
 """
 
 import os
@@ -344,6 +344,20 @@ def try_examples(folder):
             sys.exit(f"the example {line!r} of the help ends with {done.returncode}: {done.stderr}{done.stdout}")
 
 
+def blocks(document, after):
+    """The lines of each indented block behind some words of a document."""
+    text = (ROOT / "docs" / document).read_text().partition(after)[2]
+    return [[line.strip() for line in block.splitlines()] for block in re.findall(r"(?m)(?:^    .*\n)+", text)]
+
+
+def try_documents():
+    """What the documents answer by hand to commands of replay."""
+    asked, answers = blocks("FORMAT.md", "The same image, given as text to `rowhash replay`:")[:2]
+    expect(["replay"], 0, answers, asked="\n".join(asked).encode())
+    pairs = [re.split(r"  +", line) for line in blocks("RUNS.md", "An example: two rows over a column of the bytes 1 and 2")[0]]
+    expect(["replay"], 0, [answer for _, answer in pairs], asked="\n".join(command for command, _ in pairs).encode())
+
+
 def main():
     subprocess.run([PROGRAM, "--version"], capture_output=True)  # builds it where it is not there, and says so
     with tempfile.TemporaryDirectory() as made:
@@ -356,6 +370,7 @@ def main():
         try_refused(folder)
         try_words()
         try_examples(folder)
+    try_documents()
     print(f"{typed} commands: each printed what it must, to the letter")
 
 
