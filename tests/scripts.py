@@ -26,13 +26,17 @@ written N*K:
     column IMAGE NODE LENT [list R..] = ANSWER
     keep LENT list R.. = ANSWER
     read ROW ENTRIES = ANSWER               lent so many entries
-    end new|begun MADE SPARED ENTRY..       so many calls were made and so many claimed words stay; the entries
-    end refused N SPARED ENTRY..            the same where begin is refused
+    end new|begun MADE ENTRY..              so many calls were made; the entries
+    end refused N ENTRY..                   the same where begin is refused
 
 LENT is three numbers: words of the entries, words of the work, and how many of
 these are claimed. ANSWER is `accepted`, `refused N`, a read's NUMBER COUNT, or
 `none` if the call is not made: for want of a place, or since a read of a run
 without a column ended it, or came before.
+
+Which words of the work stay is not written: a column or a keep that is accepted
+may leave anything in those that it is lent and that are not claimed, and no
+other call may.
 """
 
 import functools
@@ -81,8 +85,8 @@ class Run(Ledger):
         super().__init__(state, entries, self.asked)
         self.images, self.entries, self.work, self.places = images, entries, work, places
         self.columns = []
-        self.over, self.made, self.spared = bool(self.begin_faults), 0, work
-        self.wrote = set()  # which calls put words into the work
+        self.over, self.made = bool(self.begin_faults), 0
+        self.lendings = []  # of each column and keep: the call, whether it is accepted, its need, and what it got
         self.faults = []  # of the calls that were refused since the last accepted one
         self.lines = []
 
@@ -96,7 +100,6 @@ class Run(Ledger):
         words = ["column", image, node, *lent]
         if not self.answers(words if taken is None else words + ["list", *short(taken)]):
             return
-        self.spared = min(self.spared, lent.claimed)
         column = self.column_at(image, node)
         faults = self.column_faults(column, taken, got)
         note_lent(self, "column", lent, need(column) if column else 0, faults)
@@ -104,11 +107,11 @@ class Run(Ledger):
             for sort in sorts_of_need(column):
                 cover(*sort, faults[0] if faults else "accepted")
         note_column(self, image, node, column, taken, faults)
+        self.lendings.append(("column", not faults, need(column) if column else 0, got))
         if self.refuses("column", faults):
             return
         self.meet(column, taken)
         self.columns.append((image, node))
-        self.wrote |= {"column"} if need(column) else set()
         self.lines[-1].append("accepted")
 
     def column_at(self, image, node):
@@ -121,14 +124,13 @@ class Run(Ledger):
         lent, got = self.lend(**told)
         if not self.answers(["keep", *lent, "list", *short(taken)]):
             return
-        self.spared = min(self.spared, lent.claimed)
         faults = self.keep_faults(taken, got)
         note_lent(self, "keep", lent, len(taken), faults)
         note_keep(self, taken, got.entries, faults)
+        self.lendings.append(("keep", not faults, len(taken), got))
         if self.refuses("keep", faults):
             return
         self.choose(taken)
-        self.wrote |= {"keep"} if taken else set()
         self.lines[-1].append("accepted")
 
     def read(self, row, entries=None):
@@ -186,7 +188,7 @@ class Run(Ledger):
         end = ["refused", *self.begin_faults] if self.begin_faults else [self.stage, self.made]
         note_run(self)
         return [["run", self.asked, self.work, places, *short(self.entries)], *self.lines,
-                ["end", *end, self.spared, *short(self.left())]]
+                ["end", *end, *short(self.left())]]
 
     def retold(self):
         """The same rows by one keep and the accepted columns, in their order."""
@@ -325,10 +327,22 @@ def note_run(run):
         cover("images", len(run.images))
     if len(run.rows) < len(run.words):
         cover("words behind the rows", run.stage)
-    for call in run.wrote if run.spared else ():
-        cover("claimed words stay", call)
+    note_work(run)
     if run.count == MOST_COLUMNS:
         cover("255 columns", run.state)
+
+
+def note_work(run):
+    """Notes which words of the work stay, beside those that the accepted calls may write."""
+    opened = [got for _, accepted, _, got in run.lendings if accepted]
+    first, last = min([run.work] + [got.claimed for got in opened]), max([0] + [got.work for got in opened])
+    for call, accepted, wanted, got in run.lendings:
+        if accepted and wanted and first:
+            cover("claimed words stay", call)
+        if accepted and wanted and last < run.work:
+            cover("words that are not lent stay", call)
+        if not accepted and (got.claimed < min(first, got.work) or max(last, got.claimed) < got.work):
+            cover("words of a refused call stay", call)
 
 
 def required():
@@ -366,7 +380,8 @@ def required():
     wanted |= {("need met", call, "accepted") for call, _ in calls} | {("need not met by one", *call) for call in calls}
     wanted |= {(*sort, outcome) for kind in NESTED for sort in required_needs(kind) for outcome in ("accepted", 16)}
     wanted |= {("nothing unclaimed, nothing needed", call, "accepted") for call, _ in calls}
-    wanted |= {("claimed words stay", call) for call, _ in calls}
+    wanted |= {(which, call) for which in ("claimed words stay", "words that are not lent stay", "words of a refused call stay")
+               for call, _ in calls}
     wanted |= {("no such node", sort, 13) for sort in
                ("no such place", "no image there", "first node not there", "2^32 past one", "2^64 - 1")}
     wanted |= {("list number", sort, 15) for sort in ("as many as rows", "higher", "2^32 - 1")}

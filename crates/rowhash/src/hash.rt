@@ -5,7 +5,7 @@ use crate::state::ChosenState;
 use columns::node_need;
 use hash_state::HashState;
 use image::place::Image;
-use runs::call::{Answer, Call, Lent};
+use runs::call::{Answer, Call, Lent, Trace};
 use runs::fault::RunFault;
 use runs::replay::replay;
 use std::alloc::{AllocError, Global};
@@ -76,15 +76,12 @@ fn row_numbers<S: HashState>(
     let mut entries = vec![in heap; 0; columns.rows]?;
     let mut work = vec![in heap; 0; columns.work]?;
     let mut answers = vec![in heap; Answer::Accepted; columns.nodes.len()]?;
-    let made = replay(
-        columns.rows,
-        calls.as_slice(),
-        &[&columns.image],
-        state,
-        &mut entries,
-        &mut work,
-        &mut answers,
-    );
+    let trace = Trace {
+        rows: columns.rows,
+        calls: calls.as_slice(),
+        images: &[&columns.image],
+    };
+    let made = replay(trace, state, &mut entries, &mut work, &mut answers);
     if let Err(fault) = made {
         return Ok(Err((0, fault)));
     }

@@ -10,6 +10,7 @@ use crate::run::Run;
 use crate::run_command::RunCommand;
 use crate::slots::SlotAnswer;
 use admission::fault::ImageFault;
+use columns::Selection;
 use image::place::Image;
 use std::io;
 use std::io::{BufRead, BufReader, Stdin};
@@ -96,6 +97,16 @@ impl<'a> Session<'a> {
         Ok(None)
     }
 
+    // A column of all rows, or of those that a list names.
+    fn answer_column(&self, run: &mut Run, node: u64, list: Option<&[u32]>) -> Answer {
+        let image = self.image;
+        run.column(Selection {
+            image: &image,
+            node,
+            list,
+        })
+    }
+
     fn answer_run(&self, run: &mut Run, command: RunCommand) -> io::Result<()> {
         let answer = match command {
             RunCommand::State(state) => run.set_state(state),
@@ -103,7 +114,7 @@ impl<'a> Session<'a> {
             RunCommand::Claimed(words) => run.set_claimed(words),
             RunCommand::Begin(entries) => run.begin(entries),
             RunCommand::Room(words) => run.set_room(words)?,
-            RunCommand::Column(node, list) => run.column(&self.image, node, list.as_deref()),
+            RunCommand::Column(node, list) => self.answer_column(run, node, list.as_deref()),
             RunCommand::Keep(list) => run.keep(list.as_slice()),
             RunCommand::Read(row) => run.read(row),
             RunCommand::Words => return self.answer_words(run),

@@ -3,8 +3,8 @@ use crate::answer::Answer;
 use crate::lending::Lending;
 use crate::stage::Stage;
 use crate::state::ChosenState;
+use columns::Selection;
 use hash_state::{Fnv1aState, HashState};
-use image::place::Image;
 use runs::run::NewRun;
 use std::alloc::{AllocError, Global};
 use std::mem::replace;
@@ -63,22 +63,16 @@ impl Run {
         Ok(Answer::Set)
     }
 
-    pub(crate) fn column(&mut self, image: &Image<'_>, node: u64, list: Option<&[u32]>) -> Answer {
+    pub(crate) fn column(&mut self, selection: Selection<'_>) -> Answer {
         match self.state {
-            ChosenState::Fnv1a(state) => self.column_under(image, node, list, &state),
-            ChosenState::SipHash(state) => self.column_under(image, node, list, &state),
+            ChosenState::Fnv1a(state) => self.column_under(selection, &state),
+            ChosenState::SipHash(state) => self.column_under(selection, &state),
         }
     }
 
-    fn column_under<S: HashState>(
-        &mut self,
-        image: &Image<'_>,
-        node: u64,
-        list: Option<&[u32]>,
-        state: &S,
-    ) -> Answer {
+    fn column_under<S: HashState>(&mut self, selection: Selection<'_>, state: &S) -> Answer {
         let stage = replace(&mut self.stage, Stage::Absent);
-        let (stage, answer) = stage.column(image, node, list, state, &mut self.lending);
+        let (stage, answer) = stage.column(selection, state, &mut self.lending);
         self.stage = stage;
         answer
     }

@@ -1,8 +1,8 @@
 // How far a run has come.
 use crate::answer::Answer;
 use crate::lending::Lending;
+use columns::Selection;
 use hash_state::HashState;
-use image::place::Image;
 use runs::run::{BegunRun, NewRun};
 
 // A new run and a begun one are two types: which of them it is, is known only as commands are read.
@@ -17,9 +17,7 @@ impl Stage {
     // A first column that is accepted moves the run on; a refusal gives it back.
     pub(crate) fn column<S: HashState>(
         self,
-        image: &Image<'_>,
-        node: u64,
-        list: Option<&[u32]>,
+        selection: Selection<'_>,
         state: &S,
         lending: &mut Lending,
     ) -> (Stage, Answer) {
@@ -29,7 +27,7 @@ impl Stage {
         let account = &mut lending.account;
         match self {
             Stage::Absent => (Stage::Absent, Answer::NoRun),
-            Stage::New(run) => match run.column(image, node, list, state, entries, work, account) {
+            Stage::New(run) => match run.column(selection, state, entries, work, account) {
                 Ok(run) => (Stage::Begun(run), Answer::Accepted),
                 Err(back) => {
                     let (run, fault) = back;
@@ -37,7 +35,7 @@ impl Stage {
                 }
             },
             Stage::Begun(mut run) => {
-                let outcome = run.column(image, node, list, state, entries, work, account);
+                let outcome = run.column(selection, state, entries, work, account);
                 (Stage::Begun(run), Answer::of(outcome))
             }
         }

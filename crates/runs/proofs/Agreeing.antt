@@ -9,7 +9,7 @@ use Rattle.runs.specs.Columns.{Column, all_below, met_at, slot}
 use Rattle.runs.specs.Requests.{Request, Reply, column, keep, read, accepted, refused, row_read}
 use Rattle.runs.specs.Refusals.{refusal, unless}
 use Rattle.runs.specs.Ledger.{Row, Ledger, added, all_meet, answer, answers, begun, entered, is_first, next, number, row_at, run}
-use Rattle.runs.specs.State.{State, led_words, step, steps, taken, told}
+use Rattle.runs.specs.State.{State, led_words, replies, step, steps, taken, told}
 use Rattle.runs.specs.Lasting.{begun_state}
 use Rattle.runs.specs.Agreement.{Agrees, Follows, Holds}
 use Rattle.runs.proofs.Going.{keep_goes, read_goes}
@@ -25,13 +25,7 @@ unless_same (Some n) x y h = refl
 unless_same None x y h = h refl
 
 module _ (ONE : List Write → ℕ) (SEED : ℕ → List Write → ℕ) where
-  -- the answers to one request after the other
-  abbrev pub replies : State → List Request → List Reply
-  replies s [] = []
-  replies s (request ∷ rest) = told s request ∷ replies (step ONE SEED s request) rest
-
-module _ (ONE : List Write → ℕ) (SEED : ℕ → List Write → ℕ) where
-  holds_at : (n : ℕ) (rows : List Row) (words : List ℕ) (k : ℕ) → Holds ONE SEED n rows words → k < length rows
+  pub holds_at : (n : ℕ) (rows : List Row) (words : List ℕ) (k : ℕ) → Holds ONE SEED n rows words → k < length rows
       → (slice_index words k ≡ number ONE SEED (row_at rows k)) × (length (row_at rows k).met ≡ n)
   holds_at n [] words k h b = absurd (omega (arith, b))
   holds_at n (r ∷ rows) [] k h b = absurd h

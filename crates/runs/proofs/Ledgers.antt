@@ -3,7 +3,7 @@ use Rattle.std.proofs.Common.{◌≡◌, ℕ, zero, suc, ◌+◌, ◌<◌, ◌�
 use Rattle.std.proofs.lemmas.Bool.{and_parts}
 use Rattle.std.proofs.lemmas.List.{length-map}
 use Rattle.std.proofs.lemmas.List.Elements.{All-from_recursion, All-from_get_or, recursion_from_All}
-use Rattle.runs.specs.Columns.{Column, all_below, height, is_there, list_below, meeting, met_at, slot}
+use Rattle.runs.specs.Columns.{Column, all_below, height, is_there, list_below, meeting_of, met_at, slot}
 use Rattle.runs.specs.Requests.{Request, column, keep, read}
 use Rattle.runs.specs.Refusals.{most_columns, most_rows, refusal, unless}
 use Rattle.runs.specs.Ledger.{Met, Row, Ledger, added, all_meet, begun, entered, next, no_row, row_at, run}
@@ -65,7 +65,7 @@ sound_begun entries =
         subst (Stands entries []) (sym (entered_at entries 0 k b)) (record { known = omega (arith, b); begins = ap (slice_index entries) (omega arith); matches = tt })
 
 -- a column that is accepted has the rows that are met
-met_there : (c : Column) (list : Option (List ℕ)) (j : ℕ) → list_below (height c) list ≡ true → j < meeting c list → met_at list j < height c
+met_there : (c : Column) (list : Option (List ℕ)) (j : ℕ) → list_below (height c) list ≡ true → j < meeting_of (height c) list → met_at list j < height c
 met_there c None j e h = h
 met_there c (Some list) j e h = below_at (height c) list j e h
 

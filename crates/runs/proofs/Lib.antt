@@ -7,3 +7,4 @@ pub mod Ledgers
 pub mod Reordering
 pub mod Staying
 pub mod Replaying
+pub mod Opening

@@ -1,7 +1,7 @@
 -- A call on the first words alone is the call on all of them.
-use Rattle.std.proofs.Common.{◌≡◌, ℕ, ◌+◌, ◌<◌, ◌≤◌, true, List, [], ◌∷◌, ◌++◌, map, length, take, drop, ◌==◌, slice_index, Some, None, Option, refl, sym, ap, ap₂, ◌∙◌, arith, ltb-true, append_assoc, min, inl, inr, take-append-drop, length-take-le}
-use Rattle.std.proofs.lemmas.Bool.{and_parts, cases_lt}
-use Rattle.std.proofs.lemmas.List.{take_all, take-append-le, drop-append-le, get_or_append_left}
+use Rattle.std.proofs.Common.{◌≡◌, ℕ, ◌+◌, ◌<◌, ◌≤◌, true, List, [], ◌∷◌, ◌++◌, map, length, take, drop, ◌==◌, slice_index, Some, None, Option, refl, sym, ap, ap₂, ◌∙◌, arith, ltb-true, append_assoc, min, length-take-le}
+use Rattle.std.proofs.lemmas.Bool.{and_parts}
+use Rattle.std.proofs.lemmas.List.{take-append-le, drop-append-le, get_or_append_left}
 use Rattle.hash_state.specs.Writes.{Write}
 use Rattle.row_rule.specs.Number.{number_of}
 use Rattle.leaves.specs.Rows.{by_place}
@@ -107,18 +107,3 @@ pub lent_part : (entries work : List ℕ) (lent : Lent) (room words : ℕ) → r
 lent_part entries work lent room words r w =
     ap₂ (λ (a b : ℕ). record { entries = a; work = b; claimed = lent.claimed })
     (length-take-le room entries (omega (arith, r)) ∙ r) (length-take-le words work (omega (arith, w)) ∙ w)
-
--- words at the front that a call on the first words leaves
-pub spared_part : (claimed n : ℕ) (words new : List ℕ) → n ≤ length words → length new ≡ length (take n words) → take claimed new ≡ take claimed (take n words)
-    → take claimed (new ++ drop n words) ≡ take claimed words
-spared_part claimed n words new h l e =
-    elim (cases_lt (length new) claimed) [
-      | inl b ↦
-          let same : new ≡ take n words = sym (take_all claimed new (omega (arith, b))) ∙ e ∙ take_all claimed (take n words) (omega (arith, b, l)) in
-          ap (λ (xs : List ℕ). take claimed (xs ++ drop n words)) same ∙ ap (take claimed) (take-append-drop n words)
-      | inr b ↦
-          take-append-le claimed new (drop n words) b
-          ∙ e
-          ∙ sym (take-append-le claimed (take n words) (drop n words) (omega (arith, b, l)))
-          ∙ ap (take claimed) (take-append-drop n words)
-    ]

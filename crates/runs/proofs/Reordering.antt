@@ -1,5 +1,5 @@
 -- The same rows come by one keep and then the columns.
-use Rattle.std.proofs.Common.{◌≡◌, ℕ, suc, ◌+◌, ◌<◌, ◌≤◌, true, not, List, [], ◌∷◌, ◌++◌, map, length, replicate, slice_index, Some, None, Option, refl, sym, ap, ap₂, ◌∙◌, arith, le-ltb, lt-ltb, eq-eqb, ne_eqb}
+use Rattle.std.proofs.Common.{◌≡◌, ℕ, suc, ◌+◌, ◌<◌, ◌≤◌, true, not, List, [], ◌∷◌, ◌++◌, map, length, replicate, slice_index, Some, None, Option, refl, sym, ap, ap₂, subst, ◌∙◌, arith, le-ltb, lt-ltb, eq-eqb, ne_eqb}
 use Rattle.std.specs.Cmp.Derive.{both_true}
 use Rattle.std.proofs.lemmas.Bool.{cond-false, or_from}
 use Rattle.std.proofs.lemmas.List.{length-map, replicate_more}
@@ -9,7 +9,10 @@ use Rattle.runs.specs.Columns.{Column, all_below, height, met_at, slot}
 use Rattle.runs.specs.Requests.{Request, Reply, column, keep, accepted, refused}
 use Rattle.runs.specs.Refusals.{column_refusal, keep_refusal, granted, most_columns, most_rows, refusal, unless}
 use Rattle.runs.specs.Ledger.{Met, Row, Ledger, added, all_meet, answer, answers, begun, entered, next, number, row_at, run}
-use Rattle.runs.specs.Reordering.{Enough, Reorders, earlier, earlier_met, latest_at, reordered}
+use Rattle.runs.specs.Agreement.{Agrees}
+use Rattle.runs.specs.Reordering.{Enough, Reorders, SameRows, earlier, earlier_met, latest_at, reordered}
+use Rattle.runs.specs.State.{State, steps}
+use Rattle.runs.proofs.Agreeing.{agrees_run, holds_at}
 use Rattle.runs.proofs.Going.{ColumnGoes, KeepGoes}
 use Rattle.runs.proofs.Ledgers.{Each, Matches, Sound, Stands, entered_at, length-entered, sound_run}
 
@@ -17,12 +20,9 @@ use Rattle.runs.proofs.Ledgers.{Each, Matches, Sound, Stands, entered_at, length
 
 column_granted : (rows count : ℕ) (c : Column) (list : Option (List ℕ)) (lent : Lent) → ColumnGoes rows count c list lent → column_refusal rows count c list lent ≡ None
 column_granted rows count c list lent g =
-    cond-false _ _ _ (le-ltb _ _ g.room)
-    ∙ cond-false _ _ _ g.one_more
-    ∙ cond-false _ _ _ (ap not g.there)
-    ∙ cond-false _ _ _ (ap not (eq-eqb _ _ g.as_many))
-    ∙ cond-false _ _ _ (ap not g.below)
-    ∙ cond-false _ _ _ (le-ltb _ _ g.work)
+    ap₂ (λ (o p : Option ℕ). unless o (λ number. Some number) p)
+    (cond-false _ _ _ (le-ltb _ _ g.room) ∙ cond-false _ _ _ g.one_more ∙ cond-false _ _ _ (ap not g.there))
+    (cond-false _ _ _ (ap not (eq-eqb _ _ g.as_many)) ∙ cond-false _ _ _ (ap not g.below) ∙ cond-false _ _ _ (le-ltb _ _ g.work))
 
 keep_granted : (rows : ℕ) (list : List ℕ) (lent : Lent) → KeepGoes rows list lent → keep_refusal rows list lent ≡ None
 keep_granted rows list lent g =
@@ -164,7 +164,28 @@ module _ (ONE : List Write → ℕ) (SEED : ℕ → List Write → ℕ) where
         (ap (λ (x : List Row). record { rows = x; columns = c ∷ columns }) (all_met_again c columns entries (met_at (Some list)) 0 rows (λ i. ap (slice_index list) (omega arith)) s.rows))) in
         (more.0 ∙ ap (λ (k : ℕ). replicate k accepted) (omega arith), more.1)
 
-  -- the ledger of any run comes again by one keep and its columns
-  pub reorders : (entries : List ℕ) (requests : List Request) → length entries ≤ most_rows → Reorders ONE SEED entries (run (begun entries) requests)
-  reorders entries requests few lent e =
-      let l : Ledger = run (begun entries) requests in comes_reordered entries few lent l.columns l.rows (sound_run entries requests) e
+  -- two states that agree with one ledger have the same rows
+  same_rows : (l : Ledger) (s s' : State) → Agrees ONE SEED l s → Agrees ONE SEED l s' → SameRows s s'
+  same_rows l s s' a b =
+      record {
+        rows = a.rows ∙ sym b.rows;
+        count = a.count ∙ sym b.count;
+        words = λ k h.
+            let there : k < length l.rows = omega (arith, h, b.rows) in
+            (holds_at ONE SEED s.count l.rows s.words k a.holds there).0 ∙ sym (holds_at ONE SEED s'.count l.rows s'.words k b.holds there).0;
+      }
+
+  -- the rows of any run come again by one keep and its columns: in the ledger, and so in the state, which agrees with it
+  pub reorders : (entries : List ℕ) (start : State) → Agrees ONE SEED (begun entries) start → (requests : List Request) → length entries ≤ most_rows
+      → Reorders ONE SEED entries start (run (begun entries) requests) (steps ONE SEED start requests)
+  reorders entries start agrees requests few lent e =
+      let l : Ledger = run (begun entries) requests in
+      let calls : List Request = reordered lent l.rows l.columns in
+      let comes = comes_reordered entries few lent l.columns l.rows (sound_run entries requests) e in
+      let again = agrees_run ONE SEED (begun entries) start calls agrees in
+      record {
+        answered = comes.0;
+        ledger = comes.1;
+        replied = again.1 ∙ comes.0;
+        same = same_rows l _ _ (subst (λ (x : Ledger). Agrees ONE SEED x (steps ONE SEED start calls)) comes.1 again.0) (agrees_run ONE SEED (begun entries) start requests agrees).0;
+      }

@@ -7,7 +7,7 @@ use Rattle.layout.specs.Nodes.{marked, reads_nulls}
 use Rattle.layout.specs.Records.{record_at}
 use Rattle.layout.specs.Types.{data_type}
 use Rattle.layout.specs.declared.data_type.DataType.{DataType}
-use Rattle.layout.specs.declared.data_type.DataType.TheVariants.{Null, Boolean, Number, Float, Utf8, Binary, FixedSizeBinary, View, Dictionary, Struct, List as ListOf, ListView, Map, FixedSizeList, RunEnd}
+use Rattle.layout.specs.declared.data_type.DataType.TheVariants.{Dictionary, Struct, List as ListOf, ListView, Map, FixedSizeList, RunEnd}
 use Rattle.layout.specs.declared.record.Record.{Record}
 use Rattle.image.specs.Read.{slot_within, typed_slot, unmarked}
 use Rattle.image.specs.Slot.{Slot, null, refer}
@@ -30,14 +30,6 @@ refer_combines false s e = refl
 
 unmarked_combines : (first : Bool) (t : DataType) (bytes : List ℕ) (r : Record) (down : ℕ → ℕ → Slot) (row at : ℕ) → combining first t ≡ true
     → combines_slot first (unmarked t bytes r down row at) ≡ true
-unmarked_combines first Null bytes r down row at e = e
-unmarked_combines first Boolean bytes r down row at e = e
-unmarked_combines first (Number w) bytes r down row at e = e
-unmarked_combines first (Float w) bytes r down row at e = e
-unmarked_combines first (Utf8 w) bytes r down row at e = e
-unmarked_combines first (Binary w) bytes r down row at e = e
-unmarked_combines first (FixedSizeBinary p) bytes r down row at e = e
-unmarked_combines first View bytes r down row at e = e
 unmarked_combines first (Dictionary w signed) bytes r down row at e = refer_combines first _ e
 unmarked_combines first Struct bytes r down row at e = refl
 unmarked_combines first (ListOf w) bytes r down row at e = refl
@@ -45,6 +37,7 @@ unmarked_combines first (ListView w) bytes r down row at e = refl
 unmarked_combines first Map bytes r down row at e = refl
 unmarked_combines first (FixedSizeList p) bytes r down row at e = refl
 unmarked_combines first (RunEnd w) bytes r down row at e = refer_combines first _ e
+unmarked_combines first rest bytes r down row at e = e
 
 -- a column without a type has null slots only, which combine
 read_combines : (first : Bool) (o : Option DataType) (bytes : List ℕ) (r : Record) (down : ℕ → ℕ → Slot) (row : ℕ) → combining first (or_null o) ≡ true

@@ -22,3 +22,7 @@ module _ (ONE : List Write → ℕ) (SEED : ℕ → List Write → ℕ) where
   abbrev pub Follows : State → Request → Reply → State → Type 0
   Follows s request reply s' =
       (l : Ledger) → Agrees l s → (reply ≡ answer ONE SEED l request) × Agrees (next l request) s'
+
+-- whichever hash state the calls of a run are made with: begin, keep and read ask for none
+abbrev pub EachHash : ((List Write → ℕ) → (ℕ → List Write → ℕ) → Type 0) → Type 0
+EachHash P = (ONE : List Write → ℕ) (SEED : ℕ → List Write → ℕ) → P ONE SEED

@@ -10,10 +10,11 @@ use Rattle.runs.specs.declared.call.Call.TheVariants.{Column, Keep, Read}
 use Rattle.runs.specs.declared.call.Lent.{Lent}
 use Rattle.runs.specs.declared.call.Stage.{Stage}
 use Rattle.runs.specs.declared.call.Stage.TheVariants.{New, Begun}
+use Rattle.runs.specs.declared.call.Trace.{Trace}
 use Rattle.runs.specs.Requests.{Request, Reply, column, keep, read, accepted, refused, row_read}
 use Rattle.runs.specs.Ledger.{Ledger, next}
 use Rattle.runs.specs.State.{State, step, told}
-use Rattle.runs.specs.Runs.{begun_run, column_of, fault_number, list_of, new_run}
+use Rattle.runs.specs.Runs.{begun_run, fault_number, list_of, new_run}
 
 -- a run that is new or begun, with the entries that it is lent
 abbrev pub stage_run : Stage → List ℕ → State
@@ -40,20 +41,10 @@ lent_of entries work lent = record { entries = min lent.entries entries; work = 
 
 -- what a call asks for, of so many words of entries and work in all
 abbrev pub request_of : List (Bor Image) → ℕ → ℕ → Call → Request
-request_of images entries work (Column image node list lent) = column (column_of (bytes_at images image) node) (list_of list) (lent_of entries work lent)
+request_of images entries work (Column image node list lent) =
+    column (record { bytes = bytes_at images image; node = node }) (list_of list) (lent_of entries work lent)
 request_of images entries work (Keep list lent) = keep list.now (lent_of entries work lent)
 request_of images entries work (Read row room) = read row (min room entries)
-
--- the words at the front of the work that a call leaves, of so many
-abbrev pub spared : ℕ → Call → ℕ
-spared work (Column image node list lent) = lent.claimed
-spared work (Keep list lent) = lent.claimed
-spared work (Read row room) = work
-
--- the words at the front that all of the calls leave
-abbrev pub all_spared : ℕ → List Call → ℕ
-all_spared work [] = work
-all_spared work (call ∷ calls) = min (spared work call) (all_spared work calls)
 
 -- a read of a run that has accepted no column is none of the calls: a program that makes it does not build
 abbrev pub is_misuse : ℕ → Request → Bool
@@ -66,12 +57,25 @@ abbrev pub made : Ledger → List Request → ℕ
 made l [] = 0
 made l (q ∷ rest) = cond (is_misuse (length l.columns) q) 0 (suc (made (next l q) rest))
 
--- a call that is made answers and leaves what its request comes to; a misuse answers nothing, and nothing changes
-abbrev pub Made : (List Write → ℕ) → (ℕ → List Write → ℕ) → State → Request → Option Answer → State → Type 0
-Made ONE SEED s q answer s' =
-    MatchOption answer ((is_misuse s.count q ≡ true) × (s' ≡ s))
-    (λ a. (is_misuse s.count q ≡ false) × (reply_of a ≡ told s q) × (s' ≡ step ONE SEED s q))
+-- a call that is made is answered what its request is told; a misuse is not answered
+abbrev pub Answered : State → Request → Option Answer → Type 0
+Answered s q answer =
+    MatchOption answer (is_misuse s.count q ≡ true)
+    (λ a. (is_misuse s.count q ≡ false) × (reply_of a ≡ told s q))
 
--- what the calls ask for, as many as there are places for answers
-abbrev pub requests_of : List (Bor Image) → ℕ → ℕ → ℕ → List Call → List Request
-requests_of images entries work places calls = map (request_of images entries work) (take (min (length calls) places) calls)
+-- and it leaves what its request comes to; a misuse changes nothing
+abbrev pub Made : (List Write → ℕ) → (ℕ → List Write → ℕ) → State → Request → Option Answer → State → Type 0
+Made ONE SEED s q answer s' = Answered s q answer × (s' ≡ cond (is_misuse s.count q) s (step ONE SEED s q))
+
+-- how many rows begin is asked for: no more than there are entries
+abbrev pub begin_rows : Trace → List ℕ → ℕ
+begin_rows trace entries = min trace.rows (length entries)
+
+-- the entries that it takes
+abbrev pub taken_entries : Trace → List ℕ → List ℕ
+taken_entries trace entries = take (begin_rows trace entries) entries
+
+-- what the calls of a trace ask for over these words, as many as there are places for answers
+abbrev pub requests_of : Trace → List ℕ → List ℕ → List Answer → List Request
+requests_of trace entries work answers =
+    map (request_of trace.images.now (length entries) (length work)) (take (min (length trace.calls.now) (length answers)) trace.calls.now)

@@ -1,7 +1,7 @@
 -- A column of an image, as a run meets it.
 use Rattle.std.specs.Prelude.{ℕ, Bool, true, false, not, ◌&&◌, List, [], ◌∷◌, length, nat_lt, slice_index, Some, None, Option}
 use Rattle.layout.specs.declared.data_type.DataType.{DataType}
-use Rattle.layout.specs.declared.data_type.DataType.TheVariants.{Null, Boolean, Number, Float, Utf8, Binary, FixedSizeBinary, View, Dictionary, Struct, List as ListOf, ListView, Map, FixedSizeList, RunEnd}
+use Rattle.layout.specs.declared.data_type.DataType.TheVariants.{Number, Float, View, Struct, List as ListOf, ListView, Map, FixedSizeList}
 use Rattle.layout.specs.Records.{nodes, record_at}
 use Rattle.image.specs.Read.{slot_at}
 use Rattle.image.specs.Slot.{Slot}
@@ -38,10 +38,6 @@ abbrev pub meeting_of : ℕ → Option (List ℕ) → ℕ
 meeting_of rows None = rows
 meeting_of rows (Some list) = length list
 
--- the same of a column
-abbrev pub meeting : Column → Option (List ℕ) → ℕ
-meeting c list = meeting_of (height c) list
-
 -- each number of a list is below a bound
 abbrev pub all_below : ℕ → List ℕ → Bool
 all_below bound [] = true
@@ -52,23 +48,17 @@ abbrev pub list_below : ℕ → Option (List ℕ) → Bool
 list_below bound None = true
 list_below bound (Some list) = all_below bound list
 
--- the types whose columns combine: the number tells the entry that it came from
+-- the types whose columns combine: the number tells the entry that it came from. Those with child rows of their own always do, numbers, floats and views never; the rest do unless they are first
 abbrev pub combining : Bool → DataType → Bool
-combining first Null = not first
-combining first Boolean = not first
 combining first (Number w) = false
 combining first (Float w) = false
-combining first (Utf8 w) = not first
-combining first (Binary w) = not first
-combining first (FixedSizeBinary p) = not first
 combining first View = false
-combining first (Dictionary w signed) = not first
 combining first Struct = true
 combining first (ListOf w) = true
 combining first (ListView w) = true
 combining first Map = true
 combining first (FixedSizeList p) = true
-combining first (RunEnd w) = not first
+combining first rest = not first
 
 -- a column combines as its type does
 abbrev pub combines : Bool → Column → Bool

@@ -2,10 +2,11 @@ pub mod Columns
 pub mod Requests
 pub mod Refusals
 pub mod Ledger
+pub mod State
 pub mod Reordering
 pub mod Apart
-pub mod State
 pub mod Agreement
 pub mod Runs
+pub mod Open
 pub mod Calls
 pub mod Lasting

@@ -1,6 +1,7 @@
 -- What a run with its entries stands for, and what an answer says.
 use Rattle.std.specs.Prelude.{ℕ, List, length, Result, Ok, Err, Some, None, Option}
 use Rattle.std.specs.Borrow.{Bor}
+use Rattle.columns.specs.declared.selection.Selection.{Selection}
 use Rattle.runs.specs.declared.account.WorkAccount.{WorkAccount}
 use Rattle.runs.specs.declared.call.Lent.{Lent}
 use Rattle.runs.specs.declared.fault.RunFault.{RunFault}
@@ -8,8 +9,9 @@ use Rattle.runs.specs.declared.fault.RunFault.TheVariants.{Entries, Columns, Nod
 use Rattle.runs.specs.declared.run.BegunRun.{BegunRun}
 use Rattle.runs.specs.declared.run.NewRun.{NewRun}
 use Rattle.runs.specs.declared.run.RowRead.{RowRead}
+use Rattle.runs.specs.declared.run.Shape.{Shape}
 use Rattle.runs.specs.Columns.{Column}
-use Rattle.runs.specs.Requests.{Reply, accepted, refused, row_read}
+use Rattle.runs.specs.Requests.{Request, Reply, column, accepted, refused, row_read}
 use Rattle.runs.specs.State.{State}
 
 -- the numbers of the refusals
@@ -26,6 +28,10 @@ fault_number Row = 17
 abbrev pub fault_of : {T : Type 0} → Result T RunFault → Option ℕ
 fault_of (Ok _) = None
 fault_of (Err fault) = Some (fault_number fault)
+
+-- a run of so many rows and columns, with the entries that it is lent
+abbrev pub shape_run : Shape → List ℕ → State
+shape_run run words = record { count = run.count; rows = run.rows; words = words }
 
 -- a new run with the entries that it is lent
 abbrev pub new_run : NewRun → List ℕ → State
@@ -55,9 +61,9 @@ abbrev pub row_reply : Result RowRead RunFault → Reply
 row_reply (Ok read) = row_read read.number read.count
 row_reply (Err fault) = refused (fault_number fault)
 
--- a node of an image's bytes
-abbrev pub column_of : List ℕ → ℕ → Column
-column_of bytes node = record { bytes = bytes; node = node }
+-- the node of a selection
+abbrev pub column_of : Selection → Column
+column_of selection = record { bytes = selection.image.now.bytes.now; node = selection.node }
 
 -- the numbers of a list that a caller lends, if there is one
 abbrev pub list_of : Option (Bor (List ℕ)) → Option (List ℕ)
@@ -67,3 +73,11 @@ list_of (Some list) = Some list.now
 -- what a call is lent, by the entries and the work that it is given, and the work's account
 abbrev pub lent : List ℕ → List ℕ → WorkAccount → Lent
 lent entries work account = record { entries = length entries; work = length work; claimed = account.claimed }
+
+-- what is asked for by a column of these rows, over what it is lent
+abbrev pub selects : Selection → Lent → Request
+selects selection lent = column (column_of selection) (list_of selection.list) lent
+
+-- the same of the entries and the work that a call is given, and the work's account
+abbrev pub asked : Selection → List ℕ → List ℕ → WorkAccount → Request
+asked selection entries work account = selects selection (lent entries work account)

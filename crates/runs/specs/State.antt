@@ -46,3 +46,8 @@ module _ (ONE : List Write → ℕ) (SEED : ℕ → List Write → ℕ) where
   abbrev pub steps : State → List Request → State
   steps s [] = s
   steps s (request ∷ rest) = steps (step s request) rest
+
+  -- what is answered to one request after the other
+  abbrev pub replies : State → List Request → List Reply
+  replies s [] = []
+  replies s (request ∷ rest) = told s request ∷ replies (step s request) rest

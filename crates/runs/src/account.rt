@@ -1,24 +1,25 @@
 // Which words of the work are in use.
-ghost use Rattle.std.specs.Prelude.{◌≡◌, ◌-◌, ◌≤◌};
+ghost use Rattle.std.specs.Prelude.{◌≡◌};
 
-// So many words at the front of the work are claimed; where that passes the work, none is unclaimed.
+// How many words at the front of the work are in use by others. Any count will do: where it passes the words that there
+// are, none is unclaimed.
 #[derive(Clone, Copy)]
 pub struct WorkAccount {
     pub claimed: usize,
 }
 
-// Words that a call has claimed, until the guard is dropped: so they are given back on every way out.
+// The guard of a call, made before anything is asked: it claims by raising the account's count, and its end puts back
+// what the count was, on every way out.
 pub(crate) struct Claim<'a> {
     pub account: &'a mut WorkAccount,
-    pub words: usize,
+    pub before: usize,
 }
 
 impl Drop for Claim<'_> {
     fn drop(self)
-        requires { self.words ≤ self.account.now.claimed }
-        ensures { self.exit.0.now.claimed ≡ self.entry.account.now.claimed - self.entry.words }
+        ensures { self.exit.0.now.claimed ≡ self.entry.before }
     {
-        let Claim { account, words } = self;
-        account.claimed -= words;
+        let Claim { account, before } = self;
+        account.claimed = before;
     }
 }

@@ -2,15 +2,17 @@
 ghost use Rattle.std.specs.Prelude.{◌≡◌};
 ghost use Rattle.runs.specs.Runs.{fault_number};
 
+// Why a call of a run is refused: of the reasons that apply, the one of the least number. Nothing has changed then.
 #[derive(Clone, Copy, Debug, PartialEq, Eq)]
 pub enum RunFault {
-    // Entries are fewer than the run's rows, or at begin more than a run may have.
+    // Entries are fewer than the run's rows, or at begin more than 1,048,576.
     Entries,
-    // As many columns are accepted as a run may have.
+    // The run has accepted 255 columns.
     Columns,
     // The image has no such node.
     Node,
-    // A column's rows, or its list's, are not as many as the run's; or a keep list is too long.
+    // A column's rows, or its list's, are not as many as the run's; or a keep list is longer than the entries or
+    // 1,048,576.
     Length,
     // A list names a row that is not there.
     Listed,
@@ -21,7 +23,7 @@ pub enum RunFault {
 }
 
 impl RunFault {
-    // The number of the refusal.
+    // The number of the refusal, 11 to 17.
     pub fn number(self) -> u8
         ensures { result ≡ fault_number self }
     {

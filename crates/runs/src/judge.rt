@@ -1,17 +1,24 @@
 // Whether a call is refused, in checking order.
-ghost use Rattle.std.specs.Prelude.{◌≡◌, ◌+◌, ◌^◌, ◌<◌, ◌==◌, cond, not, nat_lt, Some, None, IfOk};
-ghost use Rattle.runs.specs.Columns.{all_below, column_need, list_below, meeting_of};
-ghost use Rattle.runs.specs.Refusals.{begin_refusal, column_refusal, keep_refusal, read_refusal, unclaimed};
+ghost use Rattle.std.specs.Prelude.{◌≡◌, ◌<◌, ◌==◌, cond, not, nat_lt, Some, None, IfOk};
+ghost use Rattle.runs.specs.Columns.{all_below, column_need, height, list_below, meeting_of};
+ghost use Rattle.runs.specs.Refusals.{begin_refusal, keep_refusal, node_refusal, read_refusal, rows_refusal, unclaimed};
 ghost use Rattle.runs.specs.Runs.{column_of, fault_of, list_of};
 
 use crate::call::Lent;
 use crate::fault::RunFault;
-use columns::node_need;
-use image::place::Image;
+use crate::run::Shape;
+use columns::{Selection, node_need};
 
 const MAX_ROWS: usize = 1_048_576;
 
 const MAX_COLUMNS: u8 = 255;
+
+// How many rows a column has, and how many words of the work it needs.
+#[derive(Clone, Copy)]
+pub(crate) struct ColumnSize {
+    pub rows: u32,
+    pub need: u32,
+}
 
 pub(crate) fn judge_begin(entries: usize) -> Result<(), RunFault>
     ensures { fault_of result ≡ begin_refusal entries }
@@ -26,8 +33,8 @@ pub(crate) fn judge_begin(entries: usize) -> Result<(), RunFault>
 fn check_list(list: &[u32], bound: u32) -> Result<(), RunFault>
     ensures { fault_of result ≡ cond (not (all_below bound list.now)) (Some 15) None }
 {
-    for (j, k) in list.iter().enumerate() {
-        if *k >= bound {
+    for row in list {
+        if *row >= bound {
             return Err(RunFault::Listed);
         }
     }
@@ -62,32 +69,45 @@ impl Lent {
         Ok(())
     }
 
-    // How many words of the work the column needs, unless it is refused.
-    pub(crate) fn judge_column(
+    // 11 to 13 of a column: the size of its node, from which the need is known.
+    pub(crate) fn judge_node(
         self,
-        rows: u32,
-        count: u8,
-        image: &Image<'_>,
-        node: u64,
-        list: Option<&[u32]>,
-    ) -> Result<u32, RunFault>
-        ensures fault { fault_of result ≡ column_refusal rows count (column_of image.now.bytes.now node) (list_of list.entry) self }
-        ensures need { IfOk result (λ n. n ≡ column_need (column_of image.now.bytes.now node)) }
-        ensures claim { IfOk result (λ n. self.claimed + n < 2 ^ 64) }
+        run: Shape,
+        selection: Selection<'_>,
+    ) -> Result<ColumnSize, RunFault>
+        ensures fault { fault_of result ≡ node_refusal run.rows run.count (column_of selection.entry) self }
+        ensures rows { IfOk result (λ size. size.rows ≡ height (column_of selection.entry)) }
+        ensures need { IfOk result (λ size. size.need ≡ column_need (column_of selection.entry)) }
     {
-        if self.entries < rows as usize {
+        if self.entries < run.rows as usize {
             return Err(RunFault::Entries);
         }
-        if count == MAX_COLUMNS {
+        if run.count == MAX_COLUMNS {
             return Err(RunFault::Columns);
         }
         // both are none where there is no such node
-        let (Some(record), Some(need)) = (image.node(node), node_need(image, node)) else {
+        let record = selection.image.node(selection.node);
+        let need = node_need(selection.image, selection.node);
+        let (Some(record), Some(need)) = (record, need) else {
             return Err(RunFault::Node);
         };
-        check_met(rows, record.rows, list)?;
-        self.check_work(need as usize)?;
-        Ok(need)
+        Ok(ColumnSize {
+            rows: record.rows,
+            need,
+        })
+    }
+
+    // 14 to 16 of a column.
+    pub(crate) fn judge_rows(
+        self,
+        rows: u32,
+        size: ColumnSize,
+        list: Option<&[u32]>,
+    ) -> Result<(), RunFault>
+        ensures { fault_of result ≡ rows_refusal rows size.rows size.need (list_of list.entry) self }
+    {
+        check_met(rows, size.rows, list)?;
+        self.check_work(size.need as usize)
     }
 
     pub(crate) fn judge_keep(self, rows: u32, list: &[u32]) -> Result<(), RunFault>

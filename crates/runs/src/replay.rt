@@ -1,18 +1,21 @@
 // A list of calls of one run, made one after the other.
-ghost use Rattle.std.specs.Prelude.{◌≡◌, ℕ, ◌<◌, ◌≤◌, List, IfOk, IfErr, MatchOption, drop, length, map, min, take};
-ghost use Rattle.hash_state.specs.Writes.{Write};
-ghost use Rattle.runs.specs.Calls.{Made, all_spared, bytes_at, lent_of, made, reply_of, request_of, requests_of, spared, stage_run};
-ghost use Rattle.runs.specs.Lasting.{Lasting, begun_state};
+ghost use Rattle.std.specs.Prelude.{◌≡◌, IfOk, IfErr, MatchOption, drop, length, map, min, take};
+ghost use Rattle.columns.specs.Open.{OthersStay};
+ghost use Rattle.runs.specs.Agreement.{EachHash};
+ghost use Rattle.runs.specs.Calls.{Answered, Made, begin_rows, bytes_at, lent_of, made, reply_of, request_of, requests_of, stage_run, taken_entries};
+ghost use Rattle.runs.specs.Lasting.{Lasts};
 ghost use Rattle.runs.specs.Ledger.{begun};
-ghost use Rattle.runs.specs.Refusals.{begin_refusal, most_rows};
-ghost use Rattle.runs.specs.Requests.{column, keep, read};
-ghost use Rattle.runs.specs.Runs.{column_of, fault_of, list_of};
+ghost use Rattle.runs.specs.Open.{opened, opens};
+ghost use Rattle.runs.specs.Refusals.{begin_refusal};
+ghost use Rattle.runs.specs.Requests.{keep, read};
+ghost use Rattle.runs.specs.Runs.{fault_of, selects};
 ghost use Rattle.runs.specs.State.{step, told};
 
 use crate::account::WorkAccount;
-use crate::call::{Answer, Call, Lent, Replayed, Stage};
+use crate::call::{Answer, Call, Lent, Replayed, Stage, Trace};
 use crate::fault::RunFault;
 use crate::run::NewRun;
+use columns::Selection;
 use hash_state::HashState;
 use image::place::Image;
 
@@ -29,17 +32,15 @@ fn image_at<'a>(images: &[&Image<'a>], place: usize) -> Image<'a>
 // A column over the words that it is lent of all there are.
 fn make_column<S: HashState>(
     stage: Stage,
-    image: &Image<'_>,
-    node: u64,
-    list: Option<&[u32]>,
+    selection: Selection<'_>,
     lent: Lent,
     state: &S,
     entries: &mut [u64],
     work: &mut [u64],
 ) -> (Stage, Answer)
-    ensures answer { reply_of result.1 ≡ told (stage_run stage entries.old) (column (column_of image.now.bytes.now node) (list_of list.entry) (lent_of (length entries.old) (length work.old) lent)) }
-    ensures state { stage_run result.0 entries.new ≡ step (S.BuildHasher.one state.now) (S.HashState.seeded state.now) (stage_run stage entries.old) (column (column_of image.now.bytes.now node) (list_of list.entry) (lent_of (length entries.old) (length work.old) lent)) }
-    ensures work { take lent.claimed work.new ≡ take lent.claimed work.old }
+    ensures answer { reply_of result.1 ≡ told (stage_run stage entries.old) (selects selection.entry (lent_of (length entries.old) (length work.old) lent)) }
+    ensures state { stage_run result.0 entries.new ≡ step (S.BuildHasher.one state.now) (S.HashState.seeded state.now) (stage_run stage entries.old) (selects selection.entry (lent_of (length entries.old) (length work.old) lent)) }
+    ensures work { OthersStay (opens (selects selection.entry (lent_of (length entries.old) (length work.old) lent)) (reply_of result.1)) work.old work.new }
 {
     let room = lent.entries.min(entries.len());
     let words = lent.work.min(work.len());
@@ -47,9 +48,7 @@ fn make_column<S: HashState>(
         claimed: lent.claimed,
     };
     stage.column(
-        image,
-        node,
-        list,
+        selection,
         state,
         &mut entries[..room],
         &mut work[..words],
@@ -66,8 +65,8 @@ fn make_keep(
     work: &mut [u64],
 ) -> (Stage, Answer)
     ensures answer { reply_of result.1 ≡ told (stage_run stage entries.old) (keep list.now (lent_of (length entries.old) (length work.old) lent)) }
-    ensures state { (ONE : List Write → ℕ) (SEED : ℕ → List Write → ℕ) → stage_run result.0 entries.new ≡ step ONE SEED (stage_run stage entries.old) (keep list.now (lent_of (length entries.old) (length work.old) lent)) }
-    ensures work { take lent.claimed work.new ≡ take lent.claimed work.old }
+    ensures state { EachHash (λ ONE SEED. stage_run result.0 entries.new ≡ step ONE SEED (stage_run stage entries.old) (keep list.now (lent_of (length entries.old) (length work.old) lent))) }
+    ensures work { OthersStay (opens (keep list.now (lent_of (length entries.old) (length work.old) lent)) (reply_of result.1)) work.old work.new }
 {
     let room = lent.entries.min(entries.len());
     let words = lent.work.min(work.len());
@@ -79,7 +78,7 @@ fn make_keep(
 
 // None where a read meets a run that has accepted no column.
 fn make_read(stage: &Stage, row: u64, room: usize, entries: &[u64]) -> Option<Answer>
-    ensures { MatchOption result ((stage_run stage.now entries.now).count ≡ 0) (λ answer. (0 < (stage_run stage.now entries.now).count) × (reply_of answer ≡ told (stage_run stage.now entries.now) (read row (min room (length entries.now))))) }
+    ensures { Answered (stage_run stage.now entries.now) (read row (min room (length entries.now))) result }
 {
     stage.read(row, &entries[..room.min(entries.len())])
 }
@@ -94,7 +93,7 @@ fn make<S: HashState>(
     work: &mut [u64],
 ) -> (Stage, Option<Answer>)
     ensures made { Made (S.BuildHasher.one state.now) (S.HashState.seeded state.now) (stage_run stage entries.old) (request_of images.now (length entries.old) (length work.old) call.entry) result.1 (stage_run result.0 entries.new) }
-    ensures work { take (spared (length work.old) call.entry) work.new ≡ take (spared (length work.old) call.entry) work.old }
+    ensures work { MatchOption result.1 (work.new ≡ work.old) (λ answer. OthersStay (opens (request_of images.now (length entries.old) (length work.old) call.entry) (reply_of answer)) work.old work.new) }
 {
     match call {
         Call::Column {
@@ -104,9 +103,12 @@ fn make<S: HashState>(
             lent,
         } => {
             let image = image_at(images, image);
-            let (stage, answer) = make_column(
-                stage, &image, node, list, lent, state, entries, work,
-            );
+            let selection = Selection {
+                image: &image,
+                node,
+                list,
+            };
+            let (stage, answer) = make_column(stage, selection, lent, state, entries, work);
             (stage, Some(answer))
         }
         Call::Keep { list, lent } => {
@@ -123,24 +125,22 @@ fn make<S: HashState>(
 // The calls of a run that begin gave, as many as there are places for answers, each answer in its place.
 fn make_all<S: HashState>(
     run: NewRun,
-    calls: &[Call<'_>],
-    images: &[&Image<'_>],
+    trace: Trace<'_, '_>,
     state: &S,
     entries: &mut [u64],
     work: &mut [u64],
     answers: &mut [Answer],
 ) -> Replayed
-    requires room { run.rows ≤ length entries.old }
-    requires few { run.rows ≤ most_rows }
-    ensures made { result.made ≡ made (begun (take run.rows entries.old)) (requests_of images.now (length entries.old) (length work.old) (length answers.old) calls.now) }
-    ensures lasting { Lasting (S.BuildHasher.one state.now) (S.HashState.seeded state.now) (take run.rows entries.old) (begun_state run.rows entries.old) (take result.made (requests_of images.now (length entries.old) (length work.old) (length answers.old) calls.now)) (map reply_of (take result.made answers.new)) (stage_run result.stage entries.new) }
+    requires { run.rows ≡ begin_rows trace entries.old }
+    ensures made { result.made ≡ made (begun (taken_entries trace.entry entries.old)) (requests_of trace.entry entries.old work.old answers.old) }
+    ensures lasting { Lasts (S.BuildHasher.one state.now) (S.HashState.seeded state.now) trace.entry entries.old work.old answers.old result entries.new answers.new }
     ensures behind { drop result.made answers.new ≡ drop result.made answers.old }
-    ensures work { take (all_spared (length work.old) (take result.made calls.now)) work.new ≡ take (all_spared (length work.old) (take result.made calls.now)) work.old }
+    ensures work { OthersStay (opened (take result.made (requests_of trace.entry entries.old work.old answers.old)) (map reply_of (take result.made answers.new))) work.old work.new }
 {
     let mut stage = Stage::New(run);
-    let count = calls.len().min(answers.len());
+    let count = trace.calls.len().min(answers.len());
     for made in 0..count {
-        let (next, answer) = make(stage, calls[made], images, state, entries, work);
+        let (next, answer) = make(stage, trace.calls[made], trace.images, state, entries, work);
         stage = next;
         let Some(answer) = answer else {
             return Replayed { stage, made };
@@ -150,24 +150,24 @@ fn make_all<S: HashState>(
     Replayed { stage, made: count }
 }
 
-// Begin takes the first `rows` words of the entries, or all where there are fewer; then come the calls. A read that meets a
-// run without a column is none of them, and ends it.
+// Makes a run of the first words of the entries, and then the calls of a trace, as many as there are places for
+// answers; each answer comes to its call's place, and places behind the calls that were made keep what they hold. A
+// read that meets a run without a column is none of the calls, and ends them. A refusal is begin's, 11, and nothing has
+// changed.
 pub fn replay<S: HashState>(
-    rows: usize,
-    calls: &[Call<'_>],
-    images: &[&Image<'_>],
+    trace: Trace<'_, '_>,
     state: &S,
     entries: &mut [u64],
     work: &mut [u64],
     answers: &mut [Answer],
 ) -> Result<Replayed, RunFault>
-    ensures refused { fault_of result ≡ begin_refusal (min rows (length entries.old)) }
-    ensures made { IfOk result (λ r. r.made ≡ made (begun (take (min rows (length entries.old)) entries.old)) (requests_of images.now (length entries.old) (length work.old) (length answers.old) calls.now)) }
-    ensures lasting { IfOk result (λ r. Lasting (S.BuildHasher.one state.now) (S.HashState.seeded state.now) (take (min rows (length entries.old)) entries.old) (begun_state (min rows (length entries.old)) entries.old) (take r.made (requests_of images.now (length entries.old) (length work.old) (length answers.old) calls.now)) (map reply_of (take r.made answers.new)) (stage_run r.stage entries.new)) }
+    ensures refused { fault_of result ≡ begin_refusal (begin_rows trace.entry entries.old) }
+    ensures made { IfOk result (λ r. r.made ≡ made (begun (taken_entries trace.entry entries.old)) (requests_of trace.entry entries.old work.old answers.old)) }
+    ensures lasting { IfOk result (λ r. Lasts (S.BuildHasher.one state.now) (S.HashState.seeded state.now) trace.entry entries.old work.old answers.old r entries.new answers.new) }
     ensures behind { IfOk result (λ r. drop r.made answers.new ≡ drop r.made answers.old) }
-    ensures work { IfOk result (λ r. take (all_spared (length work.old) (take r.made calls.now)) work.new ≡ take (all_spared (length work.old) (take r.made calls.now)) work.old) }
+    ensures work { IfOk result (λ r. OthersStay (opened (take r.made (requests_of trace.entry entries.old work.old answers.old)) (map reply_of (take r.made answers.new))) work.old work.new) }
     ensures unchanged { IfErr result (λ _. (entries.new ≡ entries.old) × (work.new ≡ work.old) × (answers.new ≡ answers.old)) }
 {
-    let run = NewRun::begin(&entries[..rows.min(entries.len())])?;
-    Ok(make_all(run, calls, images, state, entries, work, answers))
+    let run = NewRun::begin(&entries[..trace.rows.min(entries.len())])?;
+    Ok(make_all(run, trace, state, entries, work, answers))
 }

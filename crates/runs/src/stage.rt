@@ -1,16 +1,18 @@
 // Calls of a run that is new or begun.
-ghost use Rattle.std.specs.Prelude.{◌≡◌, ℕ, ◌<◌, List, take, length, MatchOption};
-ghost use Rattle.hash_state.specs.Writes.{Write};
-ghost use Rattle.runs.specs.Calls.{reply_of, stage_run};
-ghost use Rattle.runs.specs.Requests.{column, keep, read};
-ghost use Rattle.runs.specs.Runs.{column_of, done_reply, lent, list_of};
+ghost use Rattle.std.specs.Prelude.{◌≡◌, length};
+ghost use Rattle.columns.specs.Open.{OthersStay};
+ghost use Rattle.runs.specs.Agreement.{EachHash};
+ghost use Rattle.runs.specs.Calls.{Answered, reply_of, stage_run};
+ghost use Rattle.runs.specs.Open.{opens};
+ghost use Rattle.runs.specs.Requests.{keep, read};
+ghost use Rattle.runs.specs.Runs.{asked, done_reply, lent};
 ghost use Rattle.runs.specs.State.{step, told};
 
 use crate::account::WorkAccount;
 use crate::call::{Answer, Stage};
 use crate::fault::RunFault;
+use columns::Selection;
 use hash_state::HashState;
-use image::place::Image;
 
 impl Answer {
     fn done(done: Result<(), RunFault>) -> Answer
@@ -24,22 +26,21 @@ impl Answer {
 }
 
 impl Stage {
+    // A first column or a later one, as the run is new or begun.
     pub(crate) fn column<S: HashState>(
         self,
-        image: &Image<'_>,
-        node: u64,
-        list: Option<&[u32]>,
+        selection: Selection<'_>,
         state: &S,
         entries: &mut [u64],
         work: &mut [u64],
         account: &mut WorkAccount,
     ) -> (Stage, Answer)
-        ensures answer { reply_of result.1 ≡ told (stage_run self entries.old) (column (column_of image.now.bytes.now node) (list_of list.entry) (lent entries.old work.old account.old)) }
-        ensures state { stage_run result.0 entries.new ≡ step (S.BuildHasher.one state.now) (S.HashState.seeded state.now) (stage_run self entries.old) (column (column_of image.now.bytes.now node) (list_of list.entry) (lent entries.old work.old account.old)) }
-        ensures work { take account.old.claimed work.new ≡ take account.old.claimed work.old }
+        ensures answer { reply_of result.1 ≡ told (stage_run self entries.old) (asked selection.entry entries.old work.old account.old) }
+        ensures state { stage_run result.0 entries.new ≡ step (S.BuildHasher.one state.now) (S.HashState.seeded state.now) (stage_run self entries.old) (asked selection.entry entries.old work.old account.old) }
+        ensures work { OthersStay (opens (asked selection.entry entries.old work.old account.old) (reply_of result.1)) work.old work.new }
     {
         match self {
-            Stage::New(run) => match run.column(image, node, list, state, entries, work, account) {
+            Stage::New(run) => match run.column(selection, state, entries, work, account) {
                 Ok(run) => (Stage::Begun(run), Answer::Accepted),
                 Err(back) => {
                     let (run, fault) = back;
@@ -47,14 +48,13 @@ impl Stage {
                 }
             },
             Stage::Begun(mut run) => {
-                let answer = Answer::done(run.column(
-                    image, node, list, state, entries, work, account,
-                ));
+                let answer = Answer::done(run.column(selection, state, entries, work, account));
                 (Stage::Begun(run), answer)
             }
         }
     }
 
+    // A keep of either.
     pub(crate) fn keep(
         self,
         list: &[u32],
@@ -63,8 +63,8 @@ impl Stage {
         account: &mut WorkAccount,
     ) -> (Stage, Answer)
         ensures answer { reply_of result.1 ≡ told (stage_run self entries.old) (keep list.now (lent entries.old work.old account.old)) }
-        ensures state { (ONE : List Write → ℕ) (SEED : ℕ → List Write → ℕ) → stage_run result.0 entries.new ≡ step ONE SEED (stage_run self entries.old) (keep list.now (lent entries.old work.old account.old)) }
-        ensures work { take account.old.claimed work.new ≡ take account.old.claimed work.old }
+        ensures state { EachHash (λ ONE SEED. stage_run result.0 entries.new ≡ step ONE SEED (stage_run self entries.old) (keep list.now (lent entries.old work.old account.old))) }
+        ensures work { OthersStay (opens (keep list.now (lent entries.old work.old account.old)) (reply_of result.1)) work.old work.new }
     {
         match self {
             Stage::New(mut run) => {
@@ -80,7 +80,7 @@ impl Stage {
 
     // None on a run that has accepted no column.
     pub(crate) fn read(&self, row: u64, entries: &[u64]) -> Option<Answer>
-        ensures { MatchOption result ((stage_run self.now entries.now).count ≡ 0) (λ answer. (0 < (stage_run self.now entries.now).count) × (reply_of answer ≡ told (stage_run self.now entries.now) (read row (length entries.now)))) }
+        ensures { Answered (stage_run self.now entries.now) (read row (length entries.now)) result }
     {
         match self {
             Stage::New(_) => None,

@@ -285,7 +285,7 @@ fn parse_read_step(words: &str) -> Option<Step> {
 
 // How a run ends: the calls that were made or why there are none, and the words that are then in the entries.
 fn parse_end(heap: Global, words: &str) -> Result<Option<Line>, AllocError> {
-    let Some((made, begun, spared, rest)) = parse_end_words(words) else {
+    let Some((made, begun, rest)) = parse_end_words(words) else {
         return Ok(None);
     };
     let Some(entries) = parse_numbers(heap, rest)? else {
@@ -294,19 +294,17 @@ fn parse_end(heap: Global, words: &str) -> Result<Option<Line>, AllocError> {
     Ok(Some(Line::End(End {
         made,
         begun,
-        spared,
         entries,
     })))
 }
 
-fn parse_end_words(words: &str) -> Option<(Result<usize, u64>, bool, usize, &str)> {
+fn parse_end_words(words: &str) -> Option<(Result<usize, u64>, bool, &str)> {
     let (name, rest) = words.split_once(' ')?;
     let (made, rest) = split_number(rest)?;
-    let (spared, rest) = split_number(rest)?;
     match name {
-        "new" => Some((Ok(made as usize), false, spared as usize, rest)),
-        "begun" => Some((Ok(made as usize), true, spared as usize, rest)),
-        "refused" => Some((Err(made), false, spared as usize, rest)),
+        "new" => Some((Ok(made as usize), false, rest)),
+        "begun" => Some((Ok(made as usize), true, rest)),
+        "refused" => Some((Err(made), false, rest)),
         _ => None,
     }
 }

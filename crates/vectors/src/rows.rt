@@ -5,7 +5,7 @@ ghost use Rattle.columns.specs.Jobs.{need};
 ghost use Rattle.layout.specs.Records.{nodes, record_at};
 
 use crate::line::{Line, Question, State};
-use crate::script::{End, Script, UNCLEARED, check_claimed, check_run};
+use crate::script::{End, Script, UNCLEARED, check_run, check_stays};
 use anyhow::{Context, anyhow};
 use columns::{Selection, hash_column, node_need};
 use hash_state::{Fnv1aState, HashState};
@@ -261,7 +261,7 @@ fn check_numbers<S: HashState>(
         CLAIMED,
     );
     compare(entries.as_slice(), question)?;
-    check_claimed(work.as_slice(), CLAIMED)
+    check_stays(work.as_slice(), CLAIMED)
 }
 
 // Entries behind the numbers have to be as they were.

@@ -2,7 +2,7 @@
 use anyhow::anyhow;
 use hash_state::HashState;
 use image::place::Image;
-use runs::call::{Answer, Call, Lent, Replayed, Stage};
+use runs::call::{Answer, Call, Lent, Replayed, Stage, Trace};
 use runs::fault::RunFault;
 use runs::replay::replay;
 use runs::run::RowRead;
@@ -60,13 +60,12 @@ pub struct Script {
     pub steps: Vec<Scripted>,
 }
 
-// What comes of a run: how many calls are made, or why it is refused; whether it has accepted a column; how many words at
-// the work's front stay; and the entries.
+// What comes of a run: how many calls are made, or why it is refused; whether it has accepted a column; and the entries.
+// Which words of the work stay is told by the calls and their answers.
 #[derive(Drop)]
 pub struct End {
     pub made: Result<usize, u64>,
     pub begun: bool,
-    pub spared: usize,
     pub entries: Vec<u64>,
 }
 
@@ -95,6 +94,15 @@ impl Reply {
 }
 
 impl Step {
+    // What its call is lent, unless it is a read, which is lent no work.
+    fn lent(&self) -> Option<Lent> {
+        match self {
+            Step::Column { lent, .. } => Some(*lent),
+            Step::Keep { lent, .. } => Some(*lent),
+            Step::Read { .. } => None,
+        }
+    }
+
     fn call(&self) -> Call<'_> {
         match self {
             Step::Column {
@@ -129,10 +137,10 @@ fn calls_of(heap: Global, steps: &[Scripted]) -> Result<Vec<Call<'_>>, AllocErro
 }
 
 // Makes the calls of a script, and compares what comes of them. On an error `line` is the one that it is about.
-pub(crate) fn check_run<S: HashState>(
+pub(crate) fn check_run<'a, S: HashState>(
     heap: Global,
     state: &S,
-    images: &[&Image<'_>],
+    images: &'a [&'a Image<'a>],
     script: &Script,
     end: &End,
     line: &mut u64,
@@ -142,10 +150,13 @@ pub(crate) fn check_run<S: HashState>(
     entries.extend_from_slice(script.entries.as_slice())?;
     let mut work = vec![in heap; UNCLEARED; script.work]?;
     let mut answers = vec![in heap; NO_ANSWER; script.places]?;
-    let replayed = replay(
-        script.rows,
-        calls.as_slice(),
+    let trace = Trace {
+        rows: script.rows,
+        calls: calls.as_slice(),
         images,
+    };
+    let replayed = replay(
+        trace,
         state,
         entries.as_mut_slice(),
         work.as_mut_slice(),
@@ -154,13 +165,27 @@ pub(crate) fn check_run<S: HashState>(
     compare_answers(script.steps.as_slice(), answers.as_slice(), line)?;
     compare_end(replayed, end)?;
     compare_entries(entries.as_slice(), end.entries.as_slice())?;
-    check_claimed(work.as_slice(), end.spared)
+    put_back(script.steps.as_slice(), work.as_mut_slice());
+    let all = work.len();
+    check_stays(work.as_slice(), all)
 }
 
-// The first words, which were claimed, are as they were.
-pub(crate) fn check_claimed(work: &[u64], claimed: usize) -> anyhow::Result<()> {
-    if work.iter().take(claimed).any(|word| *word != UNCLEARED) {
-        return Err(anyhow!("a claimed word of the work has changed"));
+// Writes over the words that a call opened, so that all that are left have to be as they were: an accepted column or keep
+// opens those that it was lent and that were not claimed, and no other call opens one.
+fn put_back(steps: &[Scripted], work: &mut [u64]) {
+    for scripted in steps {
+        if let (Reply::Accepted, Some(lent)) = (scripted.reply, scripted.step.lent()) {
+            let end = lent.work.min(work.len());
+            let start = lent.claimed.min(end);
+            work[start..end].fill(UNCLEARED);
+        }
+    }
+}
+
+// So many words at the front of the work are as they were.
+pub(crate) fn check_stays(work: &[u64], words: usize) -> anyhow::Result<()> {
+    if work.iter().take(words).any(|word| *word != UNCLEARED) {
+        return Err(anyhow!("a word of the work has changed that has to stay"));
     }
     Ok(())
 }

@@ -1,27 +1,22 @@
-use Rattle.std.proofs.Common.{ℕ, List, Option, sym, ◌==◌, ◌∙◌, ap, arith, ltb-true}
+use Rattle.std.proofs.Common.{ltb-true, sym, ap, ◌∙◌, ◌==◌, arith}
 use Rattle.layout.specs.Records.{nodes, record_at}
-use Rattle.admission.proofs.Sound.{sound_few}
-use Rattle.runs.specs.Refusals.{unless}
-use Rattle.runs.specs.Runs.{column_of, lent, list_of}
-use Rattle.runs.specs.State.{led_words}
-use Rattle.runs.proofs.Steps.{rows_meeting, rows_there, words_led}
-use Rattle.runs.proofs.Going.{column_goes}
+use Rattle.runs.specs.Runs.{asked, column_of, lent, list_of, shape_run}
+use Rattle.runs.specs.State.{State}
+use Rattle.runs.proofs.Steps.{goes_on, rows_meeting, rows_there, words_led}
+use Rattle.runs.proofs.Going.{column_goes, column_passed}
 use Rattle.runs.proofs.column.lead_rows.Goals as goal
-
-pub overflow_cast-node : goal.overflow_cast-node
-overflow_cast-node g c =
-    let bytes = c.args.image.now.bytes.now in
-    let goes = column_goes c.args.rows c.args.count (column_of bytes c.args.node) (list_of c.args.list) (lent c.args.entries.now c.args.work.now c.args.account.now) (sym c.in_ok-need.ensures.fault) in
-    let there = ltb-true c.args.node (nodes bytes) goes.there in
-    omega (arith, there, sound_few bytes c.args.image.now.sound (omega (arith, there)))
 
 pub hash_column-requires : goal.hash_column-requires
 hash_column-requires g c =
-    let goes = column_goes c.args.rows c.args.count (column_of c.args.image.now.bytes.now c.args.node) (list_of c.args.list) (lent c.args.entries.now c.args.work.now c.args.account.now) (sym c.in_ok-need.ensures.fault) in
-    let met = rows_meeting c.args.image.now.bytes.now c.args.node c.args.list ∙ goes.as_many in
+    let a = c.args in
+    let size = c.in_ok-size in
+    let l = lent a.entries.now a.work.now a.claim.account.now in
+    let none = column_passed a.run.rows a.run.count (column_of a.selection) (list_of a.selection.list) l size.size.rows size.size.need size.ensures.rows size.ensures.need size.ensures.fault c.in_ok-judge_rows.ensures in
+    let goes = column_goes a.run.rows a.run.count (column_of a.selection) (list_of a.selection.list) l (sym none) in
+    let met = rows_meeting (record_at a.selection.image.now.bytes.now a.selection.node).rows a.selection.list ∙ goes.as_many in
     record {
-      there = ltb-true c.args.node (nodes c.args.image.now.bytes.now) goes.there;
-      rows = rows_there (record_at c.args.image.now.bytes.now c.args.node).rows c.args.list goes.below;
+      there = ltb-true a.selection.node (nodes a.selection.image.now.bytes.now) goes.there;
+      rows = rows_there (record_at a.selection.image.now.bytes.now a.selection.node).rows a.selection.list goes.below;
       entries = omega (arith, met, goes.room);
       few = omega (arith, met);
       room = omega (arith, goes.work);
@@ -29,8 +24,11 @@ hash_column-requires g c =
 
 pub returns-clause-entries : goal.returns-clause-entries
 returns-clause-entries g c =
-    let goes = column_goes c.args.rows c.args.count (column_of c.args.image.now.bytes.now c.args.node) (list_of c.args.list) (lent c.args.entries.now c.args.work.now c.args.account.now) (sym c.in_ok-need.ensures.fault) in
-    let led : List ℕ = led_words (g.S.BuildHasher.one c.args.state.now) (g.S.HashState.seeded c.args.state.now) (c.args.count == 0) c.args.rows (column_of c.args.image.now.bytes.now c.args.node) (list_of c.args.list) c.args.entries.now in
+    let a = c.args in
+    let size = c.in_ok-size in
+    let l = lent a.entries.now a.work.now a.claim.account.now in
+    let none = column_passed a.run.rows a.run.count (column_of a.selection) (list_of a.selection.list) l size.size.rows size.size.need size.ensures.rows size.ensures.need size.ensures.fault c.in_ok-judge_rows.ensures in
+    let goes = column_goes a.run.rows a.run.count (column_of a.selection) (list_of a.selection.list) l (sym none) in
     c.hash_column.ensures.entries
-    ∙ words_led _ _ c.args.image.now.bytes.now c.args.node c.args.list (c.args.count == 0) c.args.rows c.args.entries.now goes.as_many
-    ∙ ap (λ (o : Option ℕ). unless o (λ _. c.args.entries.now) led) c.in_ok-need.ensures.fault
+    ∙ words_led _ _ a.selection.image.now.bytes.now a.selection.node a.selection.list (a.run.count == 0) a.run.rows a.entries.now goes.as_many
+    ∙ ap (λ (s : State). s.words) (sym (goes_on _ _ (shape_run a.run a.entries.now) (asked a.selection a.entries.now a.work.now a.claim.account.now) none))

@@ -1,9 +1,12 @@
-use Rattle.std.proofs.Common.{ℕ, List, length, take, drop, sym, ap, ◌∙◌, arith, take-append-drop}
+use Rattle.std.proofs.Common.{ℕ, List, length, take, drop, sym, ap, subst, ◌∙◌, arith, take-append-drop}
+use Rattle.columns.specs.Open.{OthersStay}
 use Rattle.runs.specs.declared.call.Lent.{Lent}
-use Rattle.runs.specs.Calls.{lent_of, stage_run}
+use Rattle.runs.specs.Calls.{lent_of, reply_of, stage_run}
+use Rattle.runs.specs.Open.{opens}
 use Rattle.runs.specs.Requests.{Request, keep}
 use Rattle.runs.specs.State.{step, told}
-use Rattle.runs.proofs.Parts.{lent_part, part_step, part_told, spared_part}
+use Rattle.runs.proofs.Opening.{stays_part}
+use Rattle.runs.proofs.Parts.{lent_part, part_step, part_told}
 use Rattle.runs.proofs.replay.make_keep.Goals as goal
 
 pub returns-clause-answer : goal.returns-clause-answer
@@ -30,4 +33,9 @@ returns-clause-state c = λ ONE SEED.
 
 pub returns-clause-work : goal.returns-clause-work
 returns-clause-work c =
-    spared_part c.args.lent.claimed c.min-words.result c.args.work.now c.keep.new.work (omega (arith, c.min-words.ensures)) c.keep.auto.work c.keep.ensures.work
+    let es : List ℕ = c.args.entries.now in
+    let ws : List ℕ = c.args.work.now in
+    let words : ℕ = c.min-words.result in
+    let l = lent_part es ws c.args.lent c.min-room.result words c.min-room.ensures c.min-words.ensures in
+    stays_part _ words ws c.keep.new.work (omega (arith, c.min-words.ensures))
+    (subst (λ (l : Lent). OthersStay (opens (keep c.args.list.now l) (reply_of c.keep.result.1)) (take words ws) c.keep.new.work) l c.keep.ensures.work)
