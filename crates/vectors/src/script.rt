@@ -60,8 +60,8 @@ pub struct Script {
     pub steps: Vec<Scripted>,
 }
 
-// What comes of a run: how many calls are made, or why it is refused; whether it has accepted a column; and the entries.
-// Which words of the work stay is told by the calls and their answers.
+// What comes of a run: how many calls are made, or why it is refused; whether it has accepted a column; and the
+// entries. Which words of the work stay is told by the calls and their answers.
 #[derive(Drop)]
 pub struct End {
     pub made: Result<usize, u64>,
@@ -170,8 +170,8 @@ pub(crate) fn check_run<'a, S: HashState>(
     check_stays(work.as_slice(), all)
 }
 
-// Writes over the words that a call opened, so that all that are left have to be as they were: an accepted column or keep
-// opens those that it was lent and that were not claimed, and no other call opens one.
+// Writes over the words that a call opened, so that all that are left have to be as they were: an accepted column or
+// keep opens those that it was lent and that were not claimed, and no other call opens one.
 fn put_back(steps: &[Scripted], work: &mut [u64]) {
     for scripted in steps {
         if let (Reply::Accepted, Some(lent)) = (scripted.reply, scripted.step.lent()) {
