@@ -1,0 +1,3 @@
+pub mod Types
+pub mod Images
+pub mod Bytes

@@ -1,0 +1,4 @@
+// The definitions at numbers that the documents give: each function carries computed lines, or a law at one case.
+#![tactic(auto)]
+
+pub mod types;
