@@ -6,8 +6,7 @@ use Rattle.layout.specs.Bytes.{bit, field}
 use Rattle.layout.specs.Nodes.{child, child_rows, element, marked, typed_mark}
 use Rattle.layout.specs.Records.{elements, nodes, record_at}
 use Rattle.layout.specs.Views.{buffer_length, buffer_place, is_long, view_buffer, view_length, view_offset, view_place, view_prefix}
-use Rattle.tables.specs.Images.{image, little}
-use Rattle.tables.specs.Types.{plain}
+use Rattle.tables.specs.Images.{image, little, plain}
 
 -- numbers of 1, 2, 4 and 8 bytes from place 1 on, the lowest byte first
 abbrev pub Fields : Type 0

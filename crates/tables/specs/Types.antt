@@ -10,10 +10,7 @@ use Rattle.layout.specs.declared.data_type.Table.TheVariants.{Unread, Children, 
 use Rattle.layout.specs.Bytes.{negative, wide}
 use Rattle.layout.specs.Nodes.{bitmap_bytes, child_count, reads_nulls, table}
 use Rattle.layout.specs.Types.{data_type, kind_of}
-
--- a record that says nothing but its kind
-abbrev pub plain : ℕ → Record
-plain kind = record { kind = kind; rows = 0; start = 0; nulls = 0; a = 0; b = 0; p = 0; tab = 0; cnt = 0 }
+use Rattle.tables.specs.Images.{plain}
 
 -- the types of a kind with P 0, 1, 2, 4, 8 and 16
 abbrev pub by_p : ℕ → ListOf (Option DataType)
