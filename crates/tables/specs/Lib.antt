@@ -6,3 +6,4 @@ pub mod Reach
 pub mod Hashes
 pub mod States
 pub mod Rules
+pub mod Slots

@@ -4,4 +4,5 @@
 pub mod faults;
 pub mod hashes;
 pub mod rules;
+pub mod slots;
 pub mod types;
