@@ -7,3 +7,5 @@ pub mod Hashes
 pub mod States
 pub mod Rules
 pub mod Slots
+pub mod Nulls
+pub mod Work

@@ -3,6 +3,8 @@
 
 pub mod faults;
 pub mod hashes;
+pub mod nulls;
 pub mod rules;
 pub mod slots;
 pub mod types;
+pub mod work;
