@@ -9,3 +9,5 @@ pub mod Rules
 pub mod Slots
 pub mod Nulls
 pub mod Work
+pub mod Calls
+pub mod Ledgers

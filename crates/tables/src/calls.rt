@@ -1,0 +1,59 @@
+// Calls of a run, by docs/RUNS.md.
+ghost use Rattle.std.specs.Prelude.{◌≡◌, true};
+ghost use Rattle.tables.specs.Calls.{
+    AllCombine, BeginLimit, ColumnLimits, ColumnOrder, CombiningFirst, CombiningLater, KeepRefusals, MadeCalls, Misuses,
+    ReadRefusals, RefusalNumbers, RowsMet, TableCombines, TableRows, Unclaimed,
+};
+ghost use Rattle.tables.specs.Ledgers.{
+    BegunAgrees, CallsLast, KeptApart, KeptComesBack, KeptRows, ReadFollows, RoomIsEnough,
+};
+
+// Which columns combine, which rows are met, and which calls are made.
+pub fn calls_hold() -> bool
+    ensures answer { result ≡ true }
+    ensures first { CombiningFirst }
+    ensures later { CombiningLater }
+    ensures columns { TableCombines }
+    ensures all { AllCombine }
+    ensures rows { TableRows }
+    ensures met { RowsMet }
+    ensures misuses { Misuses }
+    ensures made { MadeCalls }
+{
+    true
+}
+
+// Calls are refused at the limits, and by the first ground that applies.
+pub fn refusals_hold() -> bool
+    ensures answer { result ≡ true }
+    ensures unclaimed { Unclaimed }
+    ensures numbers { RefusalNumbers }
+    ensures begin { BeginLimit }
+    ensures columns { ColumnLimits }
+    ensures order { ColumnOrder }
+    ensures keeps { KeepRefusals }
+    ensures reads { ReadRefusals }
+{
+    true
+}
+
+// That rows come back and stay apart says so of a ledger that there is.
+pub fn rows_come_back() -> bool
+    ensures answer { result ≡ true }
+    ensures rows { KeptRows }
+    ensures enough { RoomIsEnough }
+    ensures back { KeptComesBack }
+    ensures apart { KeptApart }
+{
+    true
+}
+
+// A begun run agrees with its ledger, and what calls promise says something of it.
+pub fn calls_follow() -> bool
+    ensures answer { result ≡ true }
+    ensures agrees { BegunAgrees }
+    ensures follows { ReadFollows }
+    ensures last { CallsLast }
+{
+    true
+}
