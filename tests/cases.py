@@ -30,7 +30,7 @@ import make_example  # noqa: E402
 from images import (  # noqa: E402
     BINARY, BOOLEAN, DICTIONARY, FIXED_SIZE_BINARY, FIXED_SIZE_LIST, FLOAT, LIST,
     LIST_VIEW, MAP, NULL, NUMBER, RUN_END, STRUCT, UTF8, VIEW,
-    Builder, bits, children, image, little, long_view, pairs, record, short_view,
+    Builder, bits, children, image, little, long_view, offsets, pairs, record, short_view,
 )
 from model import (  # noqa: E402
     U64, Boolean, Float, Map, Nothing, Null, Number, Refer, Sequence, Struct, Text,
@@ -1145,6 +1145,42 @@ title("more entries than a run may have; a run of so many rows is not tried: eac
 accepted("begin 1 2 3", "column 1")
 refused(11, "begin" + " 0" * (MOST_ROWS + 1))
 accepted("column 2")
+read_all()
+
+
+# ---------------------------------------------------------------------------
+title("limits that no case above reaches")
+admit(image([record(VIEW, a=72, tab=40, cnt=4)], pairs(*[(0, 0)] * 4)), "admitted 1")  # 40 + 8 x 4 is 72
+admit(image([record(VIEW, a=2440, tab=40, cnt=300)], pairs(*[(0, 0)] * 300)), "admitted 1")  # 40 + 8 x 300 is 2440
+for width in [1, 2, 16]:
+    admit(image([record(UTF8, a=40, b=56, p=width)], little(16, 0)), "refused 2 0")
+    admit(image([record(BINARY, a=40, b=56, p=width)], little(16, 0)), "refused 2 0")
+    admit(image([record(LIST, a=80, p=width, tab=76, cnt=1), nulls(0)], children(1), little(16, 0)), "refused 2 0")
+    admit(image([record(LIST_VIEW, a=80, b=80, p=width, tab=76, cnt=1), nulls(0)], children(1)), "refused 2 0")
+# one child, and not more
+for kind, width in [(DICTIONARY, 1), (LIST, 4), (LIST_VIEW, 4), (FIXED_SIZE_LIST, 0), (RUN_END, 2)]:
+    for count in [2, 255]:
+        end = 76 + 4 * count
+        admit(image([record(kind, a=end, b=0, p=width, tab=76, cnt=count), nulls(0)], children(*[1] * count), little(8, 0)),
+              "refused 4 0")
+# 2^31, the sign bit alone, is negative in 4 bytes, and the number below it is not
+admit(image([record(UTF8, a=40, p=4)], little(4, 1 << 31)), "refused 8 0")
+admit(runs(4, [1 << 31], 0), "refused 8 0")
+admit(runs(4, [(1 << 31) - 1], 0), "admitted 2")
+# 5 comes before 6 where a child is the node itself and another has the height 16: node 0 lists itself, or a node 17,
+# which there is not, beside node 1, and nodes 1 to 16 are a chain; records end at 616, the chain's tables at 676
+records = [record(STRUCT, tab=676, cnt=2)] + [record(STRUCT, tab=616 + 4 * n, cnt=1) for n in range(15)] + [record(STRUCT)]
+for other, answer in [(0, "refused 5 0"), (17, "refused 5 0"), (16, "refused 6 0")]:
+    admit(image(records, children(*range(2, 17)), children(other, 1)), answer)
+    admit(image(records, children(*range(2, 17)), children(1, other)), answer)
+# SipHash of more than 128 bytes: text of 127, 128, 200, 255 and 256 bytes, and a byte 255 behind each
+texts = [b"x" * size for size in [127, 128, 200, 255, 256]]
+run("state siphash 1 2", "ok")
+accepted("begin 0 0 0 0 0")
+admit_columns(image([record(UTF8, 5, a=40, b=64, p=4)], offsets(4, texts), b"".join(texts)), [Column([Text(text) for text in texts])])
+accepted("column 0")
+run("words")
+accepted("column 0 list 4 3 2 1 0")
 read_all()
 
 
