@@ -1,14 +1,28 @@
--- Refusals 2 to 6, and the order of all ten, as docs/FORMAT.md lists them.
+-- Refusals 1 to 6, and the order of all ten, as docs/FORMAT.md lists them.
 use Rattle.std.specs.Prelude.{◌≡◌, ℕ, ◌+◌, ◌-◌, ◌*◌, Bool, true, false, List, [], ◌∷◌, ◌++◌, map, replicate, Some, None, Option}
 use Rattle.std.specs.List.{range_with_len}
 use Rattle.layout.specs.declared.record.Record.{Record}
 use Rattle.layout.specs.declared.data_type.Table.TheVariants.{Children, Pairs}
 use Rattle.layout.specs.Nodes.{table}
-use Rattle.admission.specs.FirstFault.{first_fault, numbered}
+use Rattle.admission.specs.FirstFault.{bad_size, first_fault, numbered}
 use Rattle.admission.specs.declared.fault.ImageFault.TheVariants.{Header, Kind, Length, Table, Child, Height, Buffer, Order, Reach, View}
 use Rattle.admission.specs.Rejections.{bad_child, bad_table, too_high, too_long}
 use Rattle.tables.specs.Images.{image, little, plain, structs, words}
 use Rattle.tables.specs.Types.{types}
+
+-- 1: 3 bytes and 4; 0, 1, 256 and 257 nodes in an image of 1,048,576 bytes; 39 bytes and 40 of one node, 9,219 and 9,220 of 256; 1,073,741,824 bytes and one more
+abbrev pub ImageSizes : Type 0
+ImageSizes =
+    (map (λ len. bad_size len 0) (3 ∷ 4 ∷ [])
+    ∷ map (bad_size 1048576) (0 ∷ 1 ∷ 256 ∷ 257 ∷ [])
+    ∷ map (λ len. bad_size len 1) (3 ∷ 4 ∷ 39 ∷ 40 ∷ 65576 ∷ 1073741824 ∷ 1073741825 ∷ [])
+    ∷ map (λ len. bad_size len 256) (9219 ∷ 9220 ∷ 1073741824 ∷ 1073741825 ∷ [])
+    ∷ [])
+    ≡ ((true ∷ true ∷ [])
+    ∷ (true ∷ false ∷ false ∷ true ∷ [])
+    ∷ (true ∷ true ∷ true ∷ false ∷ false ∷ false ∷ true ∷ [])
+    ∷ (true ∷ false ∷ false ∷ true ∷ [])
+    ∷ [])
 
 -- 3: ROWS, then START, at 1,048,576 and one more; each is held to it, not their sum
 abbrev pub Lengths : Type 0

@@ -1,11 +1,11 @@
 -- The slots of images, as docs/FORMAT.md says.
-use Rattle.std.specs.Prelude.{◌≡◌, ℕ, zero, suc, ◌+◌, ◌*◌, Bool, true, false, List, [], ◌∷◌, ◌++◌, map, Ok, Err, Result}
+use Rattle.std.specs.Prelude.{◌≡◌, ℕ, zero, suc, ◌+◌, ◌*◌, Bool, true, false, List, [], ◌∷◌, ◌++◌, map, replicate, Ok, Err, Result}
 use Rattle.std.specs.List.{range_with_len}
 use Rattle.layout.specs.declared.record.Record.{Record}
 use Rattle.image.specs.Levels.{DeepEnough}
 use Rattle.image.specs.Read.{slot_at, slot_within}
 use Rattle.image.specs.Slot.{Slot, null, nothing, boolean, number, float, text, binary, view, refer, struct, sequence, entries, done, ◌⨾◌, none, entry}
-use Rattle.image.specs.Values.{Value, a_number, null_mark, value_answer}
+use Rattle.image.specs.Values.{Value, a_number, handed_out, kind_alone, null_mark, value_answer}
 use Rattle.tables.specs.Faults.{long, short}
 use Rattle.tables.specs.Images.{image, little, plain, structs, words}
 
@@ -25,11 +25,15 @@ Passes =
     map (slot_at passes 0) (0 ∷ 1 ∷ 2 ∷ [])
     ≡ (sequence (number 2 300 ⨾ number 2 65535 ⨾ done) ∷ null ∷ sequence (number 2 100 ⨾ number 2 250 ⨾ number 2 300 ⨾ done) ∷ [])
 
--- what the slot reader answers of them: a null mark, a number; 17 of a row that there is not, 13 of a node that there is not, whatever the row
+-- what the slot reader answers of them: the kind alone, a null mark, a number; 17 of a row that there is not, 13 of a node that there is not, whatever the row
 abbrev pub Answers : Type 0
 Answers =
-    (value_answer passes 0 1 ∷ value_answer passes 1 0 ∷ value_answer passes 0 3 ∷ value_answer passes 2 0 ∷ value_answer passes 2 9 ∷ [])
-    ≡ (Ok null_mark ∷ Ok (a_number 2 100) ∷ Err 17 ∷ Err 13 ∷ Err 13 ∷ [])
+    (value_answer passes 0 0 ∷ value_answer passes 0 1 ∷ value_answer passes 1 0 ∷ value_answer passes 0 3 ∷ value_answer passes 2 0 ∷ value_answer passes 2 9 ∷ [])
+    ≡ (Ok (kind_alone 13) ∷ Ok null_mark ∷ Ok (a_number 2 100) ∷ Err 17 ∷ Err 13 ∷ Err 13 ∷ [])
+
+-- of nothing, a reference, a struct, a sequence and a map the KIND alone is handed out
+abbrev pub KindsAlone : Type 0
+KindsAlone = map (handed_out 11 5) (nothing ∷ refer null ∷ struct done ∷ sequence done ∷ entries none ∷ []) ≡ replicate 5 (kind_alone 11)
 
 -- the slots of two rows of a node behind which the others and some bytes stand
 abbrev pub two_rows : List Record → List ℕ → List Slot

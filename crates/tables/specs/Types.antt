@@ -9,7 +9,7 @@ use Rattle.layout.specs.declared.data_type.Table.{Table}
 use Rattle.layout.specs.declared.data_type.Table.TheVariants.{Unread, Children, Pairs}
 use Rattle.layout.specs.Bytes.{negative, wide}
 use Rattle.layout.specs.Nodes.{bitmap_bytes, child_count, reads_nulls, table}
-use Rattle.layout.specs.Types.{data_type, kind_of}
+use Rattle.layout.specs.Types.{data_type, kind_number, kind_of}
 use Rattle.tables.specs.Images.{plain}
 
 -- the types of a kind with P 0, 1, 2, 4, 8 and 16
@@ -78,7 +78,7 @@ types =
 
 -- their numbers
 abbrev pub KindNumbers : Type 0
-KindNumbers = map kind_of types ≡ (1 ∷ 2 ∷ 3 ∷ 4 ∷ 6 ∷ 7 ∷ 8 ∷ 9 ∷ 10 ∷ 11 ∷ 12 ∷ 13 ∷ 14 ∷ 15 ∷ 16 ∷ [])
+KindNumbers = map (λ t. kind_number (kind_of t)) types ≡ (1 ∷ 2 ∷ 3 ∷ 4 ∷ 6 ∷ 7 ∷ 8 ∷ 9 ∷ 10 ∷ 11 ∷ 12 ∷ 13 ∷ 14 ∷ 15 ∷ 16 ∷ [])
 
 -- the table of each: none for kinds 1 to 8, data buffers for views, and the children that the table of kinds lists
 abbrev pub Tables : Type 0

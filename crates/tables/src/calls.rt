@@ -1,12 +1,7 @@
 // Calls of a run, by docs/RUNS.md.
 ghost use Rattle.std.specs.Prelude.{◌≡◌, true};
-ghost use Rattle.tables.specs.Calls.{
-    AllCombine, BeginLimit, ColumnLimits, ColumnOrder, CombiningFirst, CombiningLater, KeepRefusals, MadeCalls, Misuses,
-    ReadRefusals, RefusalNumbers, RowsMet, TableCombines, TableRows, Unclaimed,
-};
-ghost use Rattle.tables.specs.Ledgers.{
-    BegunAgrees, CallsLast, KeptApart, KeptComesBack, KeptRows, ReadFollows, RoomIsEnough,
-};
+ghost use Rattle.tables.specs.Calls.{AllCombine, BeginLimit, ColumnLimits, ColumnOrder, CombiningFirst, CombiningLater, KeepRefusals, MadeCalls, Misuses, ReadRefusals, RefusalNumbers, RowsMet, TableCombines, TableRows, Unclaimed};
+ghost use Rattle.tables.specs.Ledgers.{BegunAgrees, CallsLast, KeptApart, KeptComesBack, KeptRows, ReadFollows, RoomIsEnough};
 
 // Which columns combine, which rows are met, and which calls are made.
 pub fn calls_hold() -> bool

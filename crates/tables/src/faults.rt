@@ -1,31 +1,12 @@
 // The refusals of images, by docs/FORMAT.md.
 ghost use Rattle.std.specs.Prelude.{◌≡◌, true};
-ghost use Rattle.tables.specs.Faults.{
-  Borders,
-  ChildNumbers,
-  Entries,
-  FaultNumbers,
-  FirstFaults,
-  Heights,
-  Lengths,
-};
-ghost use Rattle.tables.specs.Reach.{
-  Bitmaps,
-  Buffers,
-  ChildRowsReached,
-  Keys,
-  ListViews,
-  Offsets,
-  OffsetsFromStart,
-  RunEnds,
-  Runs,
-  Texts,
-  Views,
-};
+ghost use Rattle.tables.specs.Faults.{Borders, ChildNumbers, Entries, FaultNumbers, FirstFaults, Heights, ImageSizes, Lengths};
+ghost use Rattle.tables.specs.Reach.{Bitmaps, Buffers, ChildRowsReached, Keys, ListViews, Offsets, OffsetsFromStart, RunEnds, Runs, Texts, Views};
 
-// Lengths, tables, children and heights are refused at the limits of the format, and the first of two faults is answered.
+// Sizes, lengths, tables, children and heights are refused at the limits of the format, and the first of two faults is answered.
 pub fn faults_hold() -> bool
     ensures answer { result ≡ true }
+    ensures sizes { ImageSizes }
     ensures lengths { Lengths }
     ensures entries { Entries }
     ensures borders { Borders }

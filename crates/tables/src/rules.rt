@@ -1,16 +1,6 @@
 // The row rule's laws at slots and states that there are.
 ghost use Rattle.std.specs.Prelude.{◌≡◌, true};
-ghost use Rattle.tables.specs.Rules.{
-  ApartFirst,
-  ApartLater,
-  BelowUnderFnv,
-  BelowUnderSip,
-  CombineFirst,
-  CombineLater,
-  NullForms,
-  OwnNumbers,
-  ViewWrites,
-};
+ghost use Rattle.tables.specs.Rules.{ApartFirst, ApartLater, BelowUnderFnv, BelowUnderSip, CombineFirst, CombineLater, NullForms, OwnNumbers, ViewWrites};
 
 // Which slots combine, which are marked null, and what views tell.
 pub fn slots_hold() -> bool

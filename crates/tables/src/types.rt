@@ -1,29 +1,7 @@
 // The types of columns, and the bytes of an image, by docs/FORMAT.md.
 ghost use Rattle.std.specs.Prelude.{◌≡◌, true};
-ghost use Rattle.tables.specs.Bytes.{
-  Bits,
-  ChildRows,
-  Counts,
-  Elements,
-  Fields,
-  LongViews,
-  Marks,
-  Records,
-  TypedMarks,
-  ViewParts,
-};
-ghost use Rattle.tables.specs.Types.{
-  BitmapBytes,
-  ChildCounts,
-  KeySigns,
-  KindNumbers,
-  Kinds,
-  NullsRead,
-  Signs,
-  Sizes,
-  Tables,
-  WidthBytes,
-};
+ghost use Rattle.tables.specs.Bytes.{Bits, ChildRows, Counts, Elements, Fields, LongViews, Marks, Records, TypedMarks, ViewParts};
+ghost use Rattle.tables.specs.Types.{BitmapBytes, ChildCounts, KeySigns, KindNumbers, Kinds, NullsRead, Signs, Sizes, Tables, WidthBytes};
 
 // Each kind has the types, the table, the bitmap and the signs that the format lists.
 pub fn types_hold() -> bool

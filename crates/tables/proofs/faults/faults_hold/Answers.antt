@@ -1,5 +1,5 @@
 use Rattle.std.proofs.Common.{refl}
-use Rattle.tables.specs.Faults.{Borders, ChildNumbers, Entries, FaultNumbers, FirstFaults, Heights, Lengths}
+use Rattle.tables.specs.Faults.{Borders, ChildNumbers, Entries, FaultNumbers, FirstFaults, Heights, ImageSizes, Lengths}
 use Rattle.tables.proofs.faults.faults_hold.Goals as goal
 
 lengths : Lengths
@@ -23,6 +23,9 @@ numbers = refl
 first : FirstFaults
 first = refl
 
+sizes : ImageSizes
+sizes = refl
+
 pub returns-clause-lengths : goal.returns-clause-lengths
 returns-clause-lengths c = lengths
 
@@ -43,3 +46,6 @@ returns-clause-numbers c = numbers
 
 pub returns-clause-first : goal.returns-clause-first
 returns-clause-first c = first
+
+pub returns-clause-sizes : goal.returns-clause-sizes
+returns-clause-sizes c = sizes

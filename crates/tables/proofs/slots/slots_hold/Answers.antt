@@ -1,5 +1,5 @@
 use Rattle.std.proofs.Common.{refl}
-use Rattle.tables.specs.Slots.{Answers, KeysFirst, Leaves, Nested, Parents, Passes}
+use Rattle.tables.specs.Slots.{Answers, KeysFirst, KindsAlone, Leaves, Nested, Parents, Passes}
 use Rattle.tables.proofs.slots.slots_hold.Goals as goal
 
 passes : Passes
@@ -20,6 +20,9 @@ keys = refl
 nested : Nested
 nested = refl
 
+kinds : KindsAlone
+kinds = refl
+
 pub returns-clause-passes : goal.returns-clause-passes
 returns-clause-passes c = passes
 
@@ -37,3 +40,6 @@ returns-clause-keys c = keys
 
 pub returns-clause-nested : goal.returns-clause-nested
 returns-clause-nested c = nested
+
+pub returns-clause-kinds : goal.returns-clause-kinds
+returns-clause-kinds c = kinds
