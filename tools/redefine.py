@@ -1,0 +1,239 @@
+#!/usr/bin/env python3
+"""Changes definitions together with their code, as one who misreads a rule would, and says what notices each.
+
+    tools/redefine.py [--list] [NAME ..]
+
+A contract binds code to a definition, and says nothing where both are changed. Each change below is such a one: texts of
+specs/, src/ and proofs/ of one crate, changed until the crate was proved again. They are applied one at a time to a copy
+of the repository's files. Then, in this order,
+
+- the changed crate is checked: most are proved as before; some cannot be, and the line says where;
+- the modules of `tables` that speak of the crate are checked, the one that stands on the fewest crates first: each is
+  computed lines and proved cases. Only the crates that it speaks of are checked below it;
+- if all of that is proved, the programs are run on their stored cases, unproved, and what they print is compared.
+
+A line is printed for each change: its name, and what noticed it, or NOT NOTICED; then the status is 1. --list prints
+the changes and checks nothing; NAMEs are those to try, all if none is given. The longest check takes some minutes.
+"""
+
+import argparse
+import re
+import shutil
+import subprocess
+import sys
+import tempfile
+from dataclasses import dataclass
+from pathlib import Path
+
+ROOT = Path(__file__).resolve().parent.parent
+# definitions that a crate's own functions carry computed lines of
+COMPUTED = {"row_rule::worked_numbers_hold"}
+
+
+@dataclass
+class Change:
+    """A definition and its code, read otherwise: the crate, and (file of crates/, old text, new text)."""
+    name: str
+    says: str
+    texts: list
+
+    @property
+    def crate(self):
+        return self.texts[0][0].split("/")[0]
+
+
+CHANGES = [
+    # layout
+    Change("three-data-buffers", "a view has at most 3 data buffers", [
+        ("layout/specs/Nodes.antt", "table View = Pairs 65535", "table View = Pairs 3"),
+        ("layout/src/data_type.rt", "Table::Pairs(65_535)", "Table::Pairs(3)"),
+    ]),
+    Change("two-of-a-list-view", "a list view has 1 or 2 children", [
+        ("layout/specs/Nodes.antt", "table (ListView w) = Children 1 1", "table (ListView w) = Children 1 2"),
+        ("layout/src/data_type.rt", "            | DataType::ListView(_)\n", ""),
+        ("layout/src/data_type.rt", "            DataType::Map => Table::Children(2, 2),",
+         "            DataType::Map => Table::Children(2, 2),\n            DataType::ListView(_) => Table::Children(1, 2),"),
+    ]),
+    Change("many-of-a-fixed-list", "a fixed-size list has 1 to 255 children", [
+        ("layout/specs/Nodes.antt", "table (FixedSizeList p) = Children 1 1", "table (FixedSizeList p) = Children 1 255"),
+        ("layout/src/data_type.rt", "            | DataType::FixedSizeList(_)\n", ""),
+        ("layout/src/data_type.rt", "            DataType::Map => Table::Children(2, 2),",
+         "            DataType::Map => Table::Children(2, 2),\n            DataType::FixedSizeList(_) => Table::Children(1, 255),"),
+    ]),
+    Change("narrow-binary-offsets", "kind 7 may have offsets of 1 and 2 bytes", [
+        ("layout/specs/Types.antt", "(option_map Binary (width r.p 4))", "(option_map Binary (width r.p 1))"),
+        ("layout/src/data_type.rt", "DataType::Binary(Width::of(p, 4)?)", "DataType::Binary(Width::of(p, 1)?)"),
+    ]),
+    Change("sign-above-its-bit", "a number of 4 bytes is negative above 2^31, and not from it on", [
+        ("layout/specs/Bytes.antt", "nat_le 0x8000_0000 value", "nat_le 0x8000_0001 value"),
+        ("layout/src/bytes.rt", "Width::Four => value >= 0x8000_0000,", "Width::Four => value > 0x8000_0000,"),
+    ]),
+    Change("highest-bit-first", "bits of a bitmap, the highest of a byte first", [
+        ("layout/specs/Bytes.antt", "2 ^ (index % 8) % 2", "2 ^ (7 - index % 8) % 2"),
+        ("layout/specs/Bytes.antt", "◌+◌, ◌*◌,", "◌+◌, ◌-◌, ◌*◌,"),
+        ("layout/src/bytes.rt", ">> (index % 8)) % 2", ">> (7 - index % 8)) % 2"),
+    ]),
+    Change("marks-by-ones", "a row is marked null where its bit is 1", [
+        ("layout/specs/Nodes.antt", "&& not (bit bytes r.nulls (r.start + row))", "&& bit bytes r.nulls (r.start + row)"),
+        ("layout/src/column.rt", "&& !bit_at(", "&& bit_at("),
+    ]),
+    Change("runs-have-bitmaps", "NULLS of a run-end column is read", [
+        ("layout/specs/Nodes.antt", "reads_nulls (RunEnd w) = false\n", ""),
+        ("layout/src/data_type.rt", "!matches!(self, DataType::Null | DataType::RunEnd(_))", "!matches!(self, DataType::Null)"),
+    ]),
+]
+
+
+class Copy:
+    """A copy of the repository's files, in which texts are exchanged and put back."""
+
+    def __init__(self, folder):
+        self.root = Path(folder)
+        listed = subprocess.run(["git", "ls-files", "-co", "--exclude-standard", "-z"], cwd=ROOT, check=True, capture_output=True, text=True)
+        for name in listed.stdout.split("\0"):
+            if name and (ROOT / name).is_file():
+                (self.root / name).parent.mkdir(parents=True, exist_ok=True)
+                shutil.copy(ROOT / name, self.root / name)
+        self.before = {}
+
+    def write(self, name, text):
+        """A file with another text, or None for none."""
+        path = self.root / name
+        self.before.setdefault(name, path.read_text())
+        if text is None:
+            path.unlink()
+        else:
+            path.write_text(text)
+
+    def exchange(self, name, old, new):
+        """One text for another, which stands there once."""
+        text = (self.root / name).read_text()
+        if text.count(old) != 1:
+            sys.exit(f"redefine: {text.count(old)} times in {name}: {old}")
+        self.write(name, text.replace(old, new))
+
+    def restore(self, names=None):
+        """Every file, or these, as it was."""
+        for name in list(self.before if names is None else names):
+            (self.root / name).write_text(self.before.pop(name))
+
+
+def crates_of(copy):
+    """Each crate with those that it stands on."""
+    lines = [line.partition(":") for line in (copy.root / "crates.txt").read_text().splitlines()]
+    return {name.split()[0]: below.split() for name, colon, below in lines if colon and not name.startswith("#")}
+
+
+def check(copy, crate):
+    """Whether a crate is proved; else the functions that are not, as far as the check says, and its first errors."""
+    done = subprocess.run(["rt", "check"], cwd=copy.root / "crates" / crate, stdin=subprocess.DEVNULL, capture_output=True, text=True)
+    said = done.stdout + done.stderr
+    open_ = re.findall(r"^fn (\S+): not proved", said, re.M)
+    wrong = re.findall(r"^(?:\./)?(\S+?):\d+:\d+: error: `(.+?)`: ", said, re.M)
+    return done.returncode == 0 and not open_, open_, wrong, said
+
+
+def speaking_of(copy, crate):
+    """The modules of `tables` that speak of a crate, each with its specs and the crates below it, fewest first."""
+    tables, crates = copy.root / "crates/tables", crates_of(copy)
+    cites = re.compile(r"use Rattle\.tables\.specs\.(\w+)")
+    specs = {file.stem: file.read_text() for file in tables.glob("specs/*.antt") if file.stem != "Lib"}
+
+    def closed(names):
+        found = set()
+        while names:
+            name = names.pop()
+            if name not in found:
+                found.add(name)
+                names |= set(cites.findall(specs[name]))
+        return found
+
+    found = []
+    for module in re.findall(r"^pub mod (\w+);", (tables / "src/lib.rt").read_text(), re.M):
+        cited = closed(set(cites.findall((tables / f"src/{module}.rt").read_text())))
+        named = {name for it in cited for name in re.findall(r"use Rattle\.(\w+)\.", specs[it])} & set(crates) - {"tables"}
+        below = named.union(*(crates[name] for name in named))
+        if crate in below:
+            found.append((len(below), module, cited, below))
+    return sorted(found)
+
+
+def cut(copy, module, specs, below):
+    """Leaves one module of `tables`, with the crates that it speaks of."""
+    for file in (copy.root / "crates/tables").rglob("*"):
+        name = file.relative_to(copy.root)
+        if file.is_file() and "out" not in name.parts and "must-fail" not in name.parts:
+            part, stem = name.parts[2], name.parts[3] if len(name.parts) > 4 else file.stem
+            kept = {"src": {module, "lib"}, "proofs": {module, "Lib"}, "specs": specs | {"Lib"}}[part]
+            if stem not in kept:
+                copy.write(str(name), None)
+    for name, kept in [("src/lib.rt", rf"pub mod (?!{module};).*\n"), ("specs/Lib.antt", rf"pub mod (?!({'|'.join(specs)})\n).*\n")]:
+        path = f"crates/tables/{name}"
+        copy.write(path, re.sub(kept, "", (copy.root / path).read_text()))
+    copy.write("crates.txt", re.sub(r"tables:.*", "tables: " + " ".join(sorted(below)), (copy.root / "crates.txt").read_text()))
+
+
+def stored(copy):
+    """The first stored case of a program that comes out otherwise, if there is one."""
+    for program, arguments in [("rowhash", ["--", "replay"]), ("vectors", [])]:
+        folder = copy.root / "crates" / program
+        data = [f"--data={file.name}={file}" for file in sorted(folder.glob("data/*"))]
+        done = subprocess.run(["rt", "try", "--seconds", "600", *data, *arguments], cwd=folder, stdin=open(folder / "stdin"), capture_output=True, text=True)
+        asked = [line for line in (folder / "stdin").read_text().splitlines() if line and not line.startswith("#")]
+        for number, (got, wanted) in enumerate(zip(done.stdout.splitlines() + [""], (folder / "stdout").read_text().splitlines())):
+            if got != wanted:
+                return f"{program}: {asked[number][:60] if program == 'rowhash' else ''} is answered {got or 'nothing'}, not {wanted}"
+    return None
+
+
+def noticed(copy, change):
+    """What notices a change, or None; and what is to be said of the crate."""
+    crate = change.crate
+    proved, open_, wrong, said = check(copy, crate)
+    if not proved:
+        if COMPUTED & set(open_):
+            return f"{', '.join(sorted(COMPUTED & set(open_)))}, in its own crate", ""
+        return f"a proof of its own crate: {', '.join(open_) or wrong or said[-300:]}", ""
+    for _, module, specs, below in speaking_of(copy, crate):
+        before = set(copy.before)
+        cut(copy, module, specs, below)
+        proved, open_, wrong, said = check(copy, "tables")
+        copy.restore(set(copy.before) - before)
+        if not proved:
+            mine = sorted(name for name in open_ if name.startswith("tables::"))
+            if not mine:
+                print(f"    above {crate} is not proved: {', '.join(open_) or said[-300:]}")
+                continue
+            lines = [name for file, name in wrong if file.startswith("proofs/")]
+            return f"{', '.join(mine)}: {', '.join(dict.fromkeys(lines))}", ""
+    return stored(copy), ""
+
+
+def main():
+    parser = argparse.ArgumentParser(usage=__doc__)
+    parser.add_argument("--list", action="store_true")
+    parser.add_argument("names", nargs="*")
+    asked = parser.parse_args()
+    chosen = [change for change in CHANGES if not asked.names or change.name in asked.names]
+    unknown = set(asked.names) - {change.name for change in CHANGES}
+    if unknown:
+        sys.exit(f"redefine: no change {', '.join(sorted(unknown))}")
+    if asked.list:
+        for change in chosen:
+            print(f"{change.name}: {change.says}")
+        return
+    missed = 0
+    with tempfile.TemporaryDirectory() as folder:
+        copy = Copy(folder)
+        for change in chosen:
+            for file, old, new in change.texts:
+                copy.exchange(f"crates/{file}", old, new)
+            by, _ = noticed(copy, change)
+            copy.restore()
+            missed += by is None
+            print(f"{change.name}: {by or 'NOT NOTICED'}", flush=True)
+    sys.exit(1 if missed else 0)
+
+
+if __name__ == "__main__":
+    main()
