@@ -32,7 +32,7 @@ COMPUTED = {"row_rule::worked_numbers_hold"}
 
 @dataclass
 class Change:
-    """A definition and its code, read otherwise: the crate, and (file of crates/, old text, new text)."""
+    """A definition and its code, read otherwise: the crate, and (file of crates/, old text, new text, how often it stands there if not once)."""
     name: str
     says: str
     texts: list
@@ -81,6 +81,118 @@ CHANGES = [
         ("layout/specs/Nodes.antt", "reads_nulls (RunEnd w) = false\n", ""),
         ("layout/src/data_type.rt", "!matches!(self, DataType::Null | DataType::RunEnd(_))", "!matches!(self, DataType::Null)"),
     ]),
+    Change("large-fixed-sizes", "kinds 8 and 15 have sizes up to 65,536", [
+        ("layout/specs/Types.antt", "nat_le r.p 65535", "nat_le r.p 65536", 2),
+        ("layout/src/data_type.rt", "if p <= 65_535 =>", "if p <= 65_536 =>", 2),
+    ]),
+    # admission
+    Change("small-images-only", "an image has at most 65,600 bytes", [
+        ("admission/specs/FirstFault.antt", "nat_lt 1073741824 len", "nat_lt 65600 len"),
+        ("admission/src/check.rt", "MAX_BYTES: usize = 1_073_741_824", "MAX_BYTES: usize = 65_600"),
+    ]),
+    Change("table-before-length", "4 is asked before 3", [
+        ("admission/specs/FirstFault.antt",
+         "    cond (too_long r) (Some 3)\n    (cond (bad_table (length bytes) (table t) r) (Some 4)\n",
+         "    cond (bad_table (length bytes) (table t) r) (Some 4)\n    (cond (too_long r) (Some 3)\n"),
+        ("admission/src/check.rt", "    if is_too_long(&column.record) {\n        return Err(ImageFault::Length(node));\n    }\n", ""),
+        ("admission/src/check.rt", "        return Err(ImageFault::Table(node));\n    }\n",
+         "        return Err(ImageFault::Table(node));\n    }\n    if is_too_long(&column.record) {\n        return Err(ImageFault::Length(node));\n    }\n"),
+        ("admission/proofs/Sound.antt", "let c3 = cond_none (too_long r) 3 _ e in", "let c4 = cond_none (bad_table (length bytes) (table t) r) 4 _ e in"),
+        ("admission/proofs/Sound.antt", "let c4 = cond_none (bad_table (length bytes) (table t) r) 4 _ c3.1 in", "let c3 = cond_none (too_long r) 3 _ c4.1 in"),
+        ("admission/proofs/Sound.antt", "5 _ c4.1 in", "5 _ c3.1 in"),
+        ("admission/proofs/Typed.antt",
+         "      ∙ cond-false (too_long r) _ _ p.short\n      ∙ cond-false (bad_table (length bytes) (table t) r) _ _ p.tabled\n",
+         "      ∙ cond-false (bad_table (length bytes) (table t) r) _ _ p.tabled\n      ∙ cond-false (too_long r) _ _ p.short\n"),
+    ]),
+    Change("height-before-child", "6 is asked before 5", [
+        ("admission/specs/FirstFault.antt",
+         "    (cond (bad_child bytes node (table t) r) (Some 5)\n    (cond (too_high bytes node) (Some 6) (buffer_fault",
+         "    (cond (too_high bytes node) (Some 6)\n    (cond (bad_child bytes node (table t) r) (Some 5) (buffer_fault"),
+        ("admission/src/check.rt", "    if is_bad_child(&column, count, node, table) {\n        return Err(ImageFault::Child(node));\n    }\n", ""),
+        ("admission/src/check.rt", "        return Err(ImageFault::Height(node));\n    }\n",
+         "        return Err(ImageFault::Height(node));\n    }\n    if is_bad_child(&column, count, node, table) {\n        return Err(ImageFault::Child(node));\n    }\n"),
+    ]),
+    Change("reach-before-order", "9 is asked before 8", [
+        ("admission/specs/FirstFault.antt",
+         "    (cond (bad_order bytes t r) (Some 8)\n    (cond (out_of_reach bytes t r) (Some 9)\n",
+         "    (cond (out_of_reach bytes t r) (Some 9)\n    (cond (bad_order bytes t r) (Some 8)\n"),
+        ("admission/src/check.rt", "        if self.is_bad_order() {\n            return Err(ImageFault::Order(node));\n        }\n", ""),
+        ("admission/src/check.rt", "            return Err(ImageFault::Reach(node));\n        }\n",
+         "            return Err(ImageFault::Reach(node));\n        }\n        if self.is_bad_order() {\n            return Err(ImageFault::Order(node));\n        }\n"),
+        ("admission/proofs/Sound.antt", "let c8 = cond_none (bad_order bytes t r) 8 _ c7.1 in", "let c9 = cond_none (out_of_reach bytes t r) 9 _ c7.1 in"),
+        ("admission/proofs/Sound.antt", "let c9 = cond_none (out_of_reach bytes t r) 9 _ c8.1 in", "let c8 = cond_none (bad_order bytes t r) 8 _ c9.1 in"),
+        ("admission/proofs/Sound.antt", "10 None c9.1 in", "10 None c8.1 in"),
+    ]),
+    Change("empty-list-views-anywhere", "a list view of size 0 may have any offset", [
+        ("admission/specs/Rejections.antt",
+         "    not (marked bytes r row)\n    && (negative w (element w bytes r.a (r.start + row))\n    || (negative w (element w bytes r.b",
+         "    not (marked bytes r row)\n    && (not (element w bytes r.b (r.start + row) == 0)\n    && (negative w (element w bytes r.a (r.start + row))\n    || (negative w (element w bytes r.b"),
+        ("admission/specs/Rejections.antt",
+         "(element w bytes r.a (r.start + row) + element w bytes r.b (r.start + row))))",
+         "(element w bytes r.a (r.start + row) + element w bytes r.b (r.start + row)))))"),
+        ("admission/src/reach.rt",
+         "        width.negative(offset)\n            || width.negative(size)\n            || is_past(u64::from(self.column.child_rows(0)), offset, size)",
+         "        size != 0\n            && (width.negative(offset)\n                || width.negative(size)\n                || is_past(u64::from(self.column.child_rows(0)), offset, size))"),
+    ]),
+    # image
+    Change("no-depth", "slots change no more further down: of no node", [
+        ("image/specs/Levels.antt", "node < nodes bytes →", "node < 0 →"),
+        ("image/specs/Levels.antt", "use Rattle.layout.specs.Records.{nodes}\n", ""),
+        ("image/proofs/Levels.antt", "  deep_enough node row there more = levels_same", "  deep_enough node row none more = let there = omega (arith, none) in levels_same"),
+    ]),
+    # summary
+    Change("nulls-to-255", "more than 255 nulls count as 255", [
+        ("summary/specs/Nulls.antt", "option_map (λ r. count_below r.rows (is_null bytes r))", "option_map (λ r. min 255 (count_below r.rows (is_null bytes r)))"),
+        ("summary/specs/Nulls.antt", "{ℕ, zero,", "{ℕ, min, zero,"),
+        ("summary/src/lib.rt", "    Some(count)\n", "    Some(count.min(255))\n"),
+    ]),
+    # hash_state
+    Change("length-modulo-128", "SipHash's last byte is the length modulo 128", [
+        ("hash_state/specs/Sip.antt", "(length bs % 256)", "(length bs % 128)"),
+        ("hash_state/specs/Stream.antt", "% 256) (waiting", "% 128) (waiting"),
+        ("hash_state/src/siphash/stream.rt", "(self.length % 256)", "(self.length % 128)"),
+        ("hash_state/proofs/Streams.antt", "% 256", "% 128", 18),
+    ]),
+    Change("one-nan", "all NaNs of a width are hashed as one", [
+        ("hash_state/specs/Values.antt", "float_bits w b = cond (b == 2 ^ (8 * w - 1)) 0 b",
+         "float_bits w b =\n    cond (b == 2 ^ (8 * w - 1)) 0\n    (cond (nat_lt (cond (w == 2) 0x7c00 (cond (w == 4) 0x7f80_0000 0x7ff0_0000_0000_0000)) (b % 2 ^ (8 * w - 1)))\n"
+         "    (cond (w == 2) 0x7e00 (cond (w == 4) 0x7fc0_0000 0x7ff8_0000_0000_0000)) b)"),
+        ("hash_state/specs/Values.antt", "◌*◌, ◌^◌, Bool", "◌*◌, ◌%◌, ◌^◌, nat_lt, Bool"),
+        ("hash_state/src/value.rt", "        if self == 0x8000 { 0 } else { self }", "        if self == 0x8000 {\n            0\n        } else if self % 0x8000 > 0x7c00 {\n            0x7e00\n        } else {\n            self\n        }"),
+        ("hash_state/src/value.rt", "        if self == 0x8000_0000 { 0 } else { self }",
+         "        if self == 0x8000_0000 {\n            0\n        } else if self % 0x8000_0000 > 0x7f80_0000 {\n            0x7fc0_0000\n        } else {\n            self\n        }"),
+        ("hash_state/src/value.rt", "        if self == 0x8000_0000_0000_0000 {\n            0\n        } else {",
+         "        if self == 0x8000_0000_0000_0000 {\n            0\n        } else if self % 0x8000_0000_0000_0000 > 0x7ff0_0000_0000_0000 {\n            0x7ff8_0000_0000_0000\n        } else {"),
+    ]),
+    Change("no-words-one-to-one", "two numbers are combined one-to-one: words below 1", [
+        ("hash_state/specs/Combine.antt", "a < 2 ^ 64 → b < 2 ^ 64 →", "a < 1 → b < 1 →"),
+        ("hash_state/specs/Combine.antt", "◌^◌, ◌<◌, Bool", "◌^◌, ◌<◌, Bool"),
+    ]),
+    # row_rule
+    Change("value-before-key", "a map's value is led before its key", [
+        ("row_rule/specs/Number.antt", "number_of false (number_of true 0 k) v", "number_of false (number_of true 0 v) k"),
+    ]),
+    Change("map-of-structs", "a map is a list of structs", [
+        ("row_rule/specs/Number.antt", "pairs (C e (number_of false (number_of true 0 k) v)) es", "pairs (C e (C 0 (number_of false (number_of true 0 k) v))) es"),
+    ]),
+    Change("references-never-combine", "a reference does not combine", [
+        ("row_rule/specs/Laws.antt", "combines first (refer s) = cond first (is_null s) true", "combines first (refer s) = false"),
+        ("row_rule/proofs/Apart.antt", "apart true (refer s) a b ha hb c e = refer_first (is_null s) _ _ a b c e", "apart true (refer s) a b ha hb c e = no c"),
+        ("row_rule/proofs/Apart.antt", "apart false (refer s) a b ha hb c e = refer_later (is_null s) _ a b ha hb e", "apart false (refer s) a b ha hb c e = no c"),
+    ]),
+    Change("structs-never-combine", "a struct does not combine", [
+        ("row_rule/specs/Laws.antt", "combines first (struct ss) = true", "combines first (struct ss) = false"),
+        ("row_rule/proofs/Apart.antt", "apart first (struct ss) a b ha hb c e = C_left a b _ ha hb e", "apart first (struct ss) a b ha hb c e = no c"),
+    ]),
+    Change("no-entries-apart", "slots keep entries apart: those below 1", [
+        ("row_rule/specs/Laws.antt", "(a b : ℕ) → a < 2 ^ 64 → b < 2 ^ 64\n", "(a b : ℕ) → a < 1 → b < 1\n"),
+        ("row_rule/proofs/Apart.antt", "(apart ONE SEED first s a b ha hb c,", "(apart ONE SEED first s a b (omega (arith, ha)) (omega (arith, hb)) c,"),
+    ]),
+    Change("no-entries-below", "numbers stay below 2^64: from entries below 1", [
+        ("row_rule/specs/Laws.antt", "→ e < 2 ^ 64 → number_of", "→ e < 1 → number_of"),
+        ("row_rule/proofs/Below.antt", "stays_below ONE SEED one seed = number_word ONE SEED one seed",
+         "stays_below ONE SEED one seed first e s h = number_word ONE SEED one seed first e s (omega (arith, h))"),
+    ]),
 ]
 
 
@@ -105,10 +217,10 @@ class Copy:
         else:
             path.write_text(text)
 
-    def exchange(self, name, old, new):
-        """One text for another, which stands there once."""
+    def exchange(self, name, old, new, times=1):
+        """One text for another, which stands there once or so many times."""
         text = (self.root / name).read_text()
-        if text.count(old) != 1:
+        if text.count(old) != times:
             sys.exit(f"redefine: {text.count(old)} times in {name}: {old}")
         self.write(name, text.replace(old, new))
 
@@ -226,8 +338,8 @@ def main():
     with tempfile.TemporaryDirectory() as folder:
         copy = Copy(folder)
         for change in chosen:
-            for file, old, new in change.texts:
-                copy.exchange(f"crates/{file}", old, new)
+            for file, old, new, *times in change.texts:
+                copy.exchange(f"crates/{file}", old, new, *times)
             by, _ = noticed(copy, change)
             copy.restore()
             missed += by is None

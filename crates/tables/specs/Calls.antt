@@ -1,5 +1,6 @@
 -- Calls of a run, as docs/RUNS.md lists them.
 use Rattle.std.specs.Prelude.{◌≡◌, ℕ, Bool, true, false, List, [], ◌∷◌, ◌++◌, map, replicate, Some, None, Option}
+use Rattle.std.specs.List.{range_with_len}
 use Rattle.layout.specs.declared.record.Record.{Record}
 use Rattle.layout.specs.declared.data_type.DataType.{DataType}
 use Rattle.runs.specs.declared.call.Lent.{Lent}
@@ -9,7 +10,8 @@ use Rattle.runs.specs.Calls.{is_misuse, made}
 use Rattle.runs.specs.Columns.{Column, all_below, combines, combining, height, is_there, met_at}
 use Rattle.runs.specs.Ledger.{begun}
 use Rattle.runs.specs.Refusals.{begin_refusal, column_refusal, keep_refusal, read_refusal, unclaimed}
-use Rattle.runs.specs.Requests.{Request, column, keep, read}
+use Rattle.runs.specs.Open.{opened, opens}
+use Rattle.runs.specs.Requests.{Request, column, keep, read, accepted, refused, row_read}
 use Rattle.runs.specs.Runs.{fault_number}
 use Rattle.tables.specs.Images.{image, plain, words}
 use Rattle.tables.specs.Types.{types}
@@ -140,3 +142,35 @@ MadeCalls =
     ∷ (column (of_table 3) None (lent 3 0 0) ∷ read 0 3 ∷ [])
     ∷ [])
     ≡ (0 ∷ 0 ∷ 1 ∷ 3 ∷ 1 ∷ [])
+
+-- words 0 to 6 of the work of calls that are lent five with two claimed: those behind the claimed ones are open of a column and a keep that are accepted; of refused ones, and of a read, none is
+abbrev pub OpenedWords : Type 0
+OpenedWords =
+    map (λ (request, reply). map (opens request reply) (range_with_len 0 7))
+    ((column (of_table 0) None (lent 3 5 2), accepted)
+    ∷ (column (of_table 0) None (lent 3 5 2), refused 16)
+    ∷ (keep [] (lent 3 5 2), accepted)
+    ∷ (keep [] (lent 3 5 2), refused 14)
+    ∷ (read 0 3, row_read 7 1)
+    ∷ (read 0 3, refused 17)
+    ∷ [])
+    ≡ ((false ∷ false ∷ true ∷ true ∷ true ∷ false ∷ false ∷ [])
+    ∷ replicate 7 false
+    ∷ (false ∷ false ∷ true ∷ true ∷ true ∷ false ∷ false ∷ [])
+    ∷ replicate 7 false
+    ∷ replicate 7 false
+    ∷ replicate 7 false
+    ∷ [])
+
+-- the same of a list of calls: words that one of them opens; of none, of a read and two accepted columns, the first lent words 1 and 2 and the last word 4, and of the same where the last is refused
+abbrev pub OpenedByCalls : Type 0
+OpenedByCalls =
+    map (λ (requests, replies). map (opened requests replies) (range_with_len 0 7))
+    (([], [])
+    ∷ (read 0 3 ∷ column (of_table 2) None (lent 3 3 1) ∷ column (of_table 2) None (lent 3 5 4) ∷ [], row_read 7 1 ∷ accepted ∷ accepted ∷ [])
+    ∷ (read 0 3 ∷ column (of_table 2) None (lent 3 3 1) ∷ column (of_table 2) None (lent 3 5 4) ∷ [], row_read 7 1 ∷ accepted ∷ refused 14 ∷ [])
+    ∷ [])
+    ≡ (replicate 7 false
+    ∷ (false ∷ true ∷ true ∷ false ∷ true ∷ false ∷ false ∷ [])
+    ∷ (false ∷ true ∷ true ∷ false ∷ false ∷ false ∷ false ∷ [])
+    ∷ [])

@@ -1,7 +1,7 @@
 // Calls of a run, by docs/RUNS.md.
 ghost use Rattle.std.specs.Prelude.{◌≡◌, true};
-ghost use Rattle.tables.specs.Calls.{AllCombine, BeginLimit, ColumnLimits, ColumnOrder, CombiningFirst, CombiningLater, KeepRefusals, MadeCalls, Misuses, ReadRefusals, RefusalNumbers, RowsMet, TableCombines, TableRows, Unclaimed};
-ghost use Rattle.tables.specs.Ledgers.{BegunAgrees, CallsLast, KeptApart, KeptComesBack, KeptRows, ReadFollows, RoomIsEnough};
+ghost use Rattle.tables.specs.Calls.{AllCombine, BeginLimit, ColumnLimits, ColumnOrder, CombiningFirst, CombiningLater, KeepRefusals, MadeCalls, Misuses, OpenedByCalls, OpenedWords, ReadRefusals, RefusalNumbers, RowsMet, TableCombines, TableRows, Unclaimed};
+ghost use Rattle.tables.specs.Ledgers.{BegunAgrees, CallsLast, KeptApart, KeptComesAgain, KeptRows, ReadFollows, RefusedKeepsWork, RoomIsEnough};
 
 // Which columns combine, which rows are met, and which calls are made.
 pub fn calls_hold() -> bool
@@ -14,6 +14,8 @@ pub fn calls_hold() -> bool
     ensures met { RowsMet }
     ensures misuses { Misuses }
     ensures made { MadeCalls }
+    ensures open_words { OpenedWords }
+    ensures opened { OpenedByCalls }
 {
     true
 }
@@ -32,12 +34,12 @@ pub fn refusals_hold() -> bool
     true
 }
 
-// That rows come back and stay apart says so of a ledger that there is.
-pub fn rows_come_back() -> bool
+// That rows come again and stay apart says so of a ledger that there is.
+pub fn rows_come_again() -> bool
     ensures answer { result ≡ true }
     ensures rows { KeptRows }
     ensures enough { RoomIsEnough }
-    ensures back { KeptComesBack }
+    ensures again { KeptComesAgain }
     ensures apart { KeptApart }
 {
     true
@@ -49,6 +51,7 @@ pub fn calls_follow() -> bool
     ensures agrees { BegunAgrees }
     ensures follows { ReadFollows }
     ensures last { CallsLast }
+    ensures work { RefusedKeepsWork }
 {
     true
 }

@@ -1,5 +1,5 @@
 use Rattle.std.proofs.Common.{◌≡◌, lit≤, refl}
-use Rattle.tables.specs.Ledgers.{BegunAgrees, CallsLast, ReadFollows, one_column}
+use Rattle.tables.specs.Ledgers.{BegunAgrees, CallsLast, ReadFollows, RefusedKeepsWork, one_column}
 use Rattle.tables.proofs.calls.calls_follow.Goals as goal
 
 agrees : BegunAgrees
@@ -11,6 +11,9 @@ follows ONE SEED reply end law = law one_column (agrees ONE SEED)
 last : CallsLast
 last ONE SEED replies end law = (law.answered 3 (lit≤ tt), law.agreed 2 (lit≤ tt), law.ended, law.reorders 3 (lit≤ tt), law.apart 3 (lit≤ tt))
 
+work : RefusedKeepsWork
+work new stay = (stay.1 0 refl, stay.1 2 refl, stay.1 4 refl)
+
 pub returns-clause-agrees : goal.returns-clause-agrees
 returns-clause-agrees c = agrees
 
@@ -19,3 +22,6 @@ returns-clause-follows c = follows
 
 pub returns-clause-last : goal.returns-clause-last
 returns-clause-last c = last
+
+pub returns-clause-work : goal.returns-clause-work
+returns-clause-work c = work

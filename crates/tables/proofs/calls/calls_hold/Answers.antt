@@ -1,5 +1,5 @@
 use Rattle.std.proofs.Common.{refl}
-use Rattle.tables.specs.Calls.{AllCombine, CombiningFirst, CombiningLater, MadeCalls, Misuses, RowsMet, TableCombines, TableRows}
+use Rattle.tables.specs.Calls.{AllCombine, CombiningFirst, CombiningLater, MadeCalls, Misuses, OpenedByCalls, OpenedWords, RowsMet, TableCombines, TableRows}
 use Rattle.tables.proofs.calls.calls_hold.Goals as goal
 
 first : CombiningFirst
@@ -26,6 +26,12 @@ misuses = refl
 made : MadeCalls
 made = refl
 
+open_words : OpenedWords
+open_words = refl
+
+opened : OpenedByCalls
+opened = refl
+
 pub returns-clause-first : goal.returns-clause-first
 returns-clause-first c = first
 
@@ -49,3 +55,9 @@ returns-clause-misuses c = misuses
 
 pub returns-clause-made : goal.returns-clause-made
 returns-clause-made c = made
+
+pub returns-clause-open_words : goal.returns-clause-open_words
+returns-clause-open_words c = open_words
+
+pub returns-clause-opened : goal.returns-clause-opened
+returns-clause-opened c = opened

@@ -1,7 +1,7 @@
 use Rattle.std.proofs.Common.{◌≡◌, arith, lit<, lit≤, refl}
-use Rattle.tables.specs.Ledgers.{KeptApart, KeptComesBack, KeptRows, RoomIsEnough, kept, room}
+use Rattle.tables.specs.Ledgers.{KeptApart, KeptComesAgain, KeptRows, RoomIsEnough, kept, room}
 use Rattle.runs.specs.Reordering.{Enough}
-use Rattle.tables.proofs.calls.rows_come_back.Goals as goal
+use Rattle.tables.proofs.calls.rows_come_again.Goals as goal
 
 rows : KeptRows
 rows = refl
@@ -12,8 +12,8 @@ enough = record { before = lit≤ tt; after = lit≤ tt; keep = lit≤ tt; colum
 room_is_enough : RoomIsEnough
 room_is_enough = (refl, enough)
 
-back : KeptComesBack
-back ONE SEED law = law room enough
+again : KeptComesAgain
+again ONE SEED law = let come = law room enough in (come.answered, come.ledger, come.replied, come.same.rows, come.same.count, come.same.words 2 (lit< tt))
 
 apart : KeptApart
 apart ONE SEED law = (λ e. omega (arith, (law refl 0 1 (lit< tt) (lit< tt) refl).0 e), (law refl 0 2 (lit< tt) (lit< tt) refl).1 refl)
@@ -24,8 +24,8 @@ returns-clause-rows c = rows
 pub returns-clause-enough : goal.returns-clause-enough
 returns-clause-enough c = room_is_enough
 
-pub returns-clause-back : goal.returns-clause-back
-returns-clause-back c = back
+pub returns-clause-again : goal.returns-clause-again
+returns-clause-again c = again
 
 pub returns-clause-apart : goal.returns-clause-apart
 returns-clause-apart c = apart
