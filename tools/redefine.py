@@ -32,7 +32,7 @@ COMPUTED = {"row_rule::worked_numbers_hold"}
 
 @dataclass
 class Change:
-    """A definition and its code, read otherwise: the crate, and (file of crates/, old text, new text, how often it stands there if not once)."""
+    """A definition and its code, read otherwise: the crate, and (file of crates/, old text or none for a new file, new text, how often the old one stands there if not once)."""
     name: str
     says: str
     texts: list
@@ -104,13 +104,34 @@ CHANGES = [
          "      ∙ cond-false (too_long r) _ _ p.short\n      ∙ cond-false (bad_table (length bytes) (table t) r) _ _ p.tabled\n",
          "      ∙ cond-false (bad_table (length bytes) (table t) r) _ _ p.tabled\n      ∙ cond-false (too_long r) _ _ p.short\n"),
     ]),
-    Change("height-before-child", "6 is asked before 5", [
+    Change("own-child-is-too-high", "6 is asked before 5 where a node is its own child", [
+        ("admission/specs/Rejections.antt", "-- whether a node's height is above h:",
+         "-- a child is the node itself\nabbrev pub own_child : List ℕ → ℕ → Table → Record → Bool\n"
+         "own_child bytes node t r = some_below (listed t r.cnt) (λ k. child bytes r k == node)\n\n-- whether a node's height is above h:"),
         ("admission/specs/FirstFault.antt",
-         "    (cond (bad_child bytes node (table t) r) (Some 5)\n    (cond (too_high bytes node) (Some 6) (buffer_fault",
-         "    (cond (too_high bytes node) (Some 6)\n    (cond (bad_child bytes node (table t) r) (Some 5) (buffer_fault"),
-        ("admission/src/check.rt", "    if is_bad_child(&column, count, node, table) {\n        return Err(ImageFault::Child(node));\n    }\n", ""),
-        ("admission/src/check.rt", "        return Err(ImageFault::Height(node));\n    }\n",
-         "        return Err(ImageFault::Height(node));\n    }\n    if is_bad_child(&column, count, node, table) {\n        return Err(ImageFault::Child(node));\n    }\n"),
+         "    (cond (bad_child bytes node (table t) r) (Some 5)\n    (cond (too_high bytes node) (Some 6) (buffer_fault bytes t r))))",
+         "    (cond (own_child bytes node (table t) r) (Some 6)\n    (cond (bad_child bytes node (table t) r) (Some 5)\n    (cond (too_high bytes node) (Some 6) (buffer_fault bytes t r)))))"),
+        ("admission/specs/FirstFault.antt", "{too_long, bad_table, bad_child,", "{own_child, too_long, bad_table, bad_child,"),
+        ("admission/src/table.rt", "// The greatest height of a node's children, 0 without children.",
+         "pub(crate) fn is_own_child(column: &Column, node: u32, table: Table) -> bool\n"
+         "    requires { bad_table (length column.now.bytes.now) table column.now.record ≡ false }\n"
+         "    ensures { result ≡ own_child column.now.bytes.now node table column.now.record }\n"
+         "{\n    (0..table.listed(column.record.cnt)).any(|index| column.child(index) == node)\n}\n\n"
+         "// The greatest height of a node's children, 0 without children."),
+        ("admission/src/table.rt", "{bad_child, bad_table,", "{bad_child, own_child, bad_table,"),
+        ("admission/src/check.rt", "    if is_bad_child(", "    if is_own_child(&column, node, table) {\n        return Err(ImageFault::Height(node));\n    }\n    if is_bad_child("),
+        ("admission/src/check.rt", "is_bad_child, is_bad_table, is_too_long", "is_bad_child, is_bad_table, is_own_child, is_too_long"),
+        ("admission/proofs/table/is_own_child/Answers.antt", "",
+         "use Rattle.std.proofs.Common.{refl, rules, tests}\nuse Rattle.admission.proofs.Below.{some_below-from_any}\n"
+         "use Rattle.admission.proofs.table.is_own_child.Goals as goal\n\npub returns : goal.returns\n"
+         "returns c = rw (← c.listed.ensures) (some_below-from_any _ _ refl c.any.ensures.ran (λ x b q k. search (rules, tests)))\n"),
+        ("admission/proofs/check/check_node/Answers.antt", "      lined = search rules;\n", "      other = search rules;\n      lined = search rules;\n"),
+        ("admission/proofs/Typed.antt", "  pub lined : bad_child", "  pub other : own_child bytes node (table t) r ≡ false\n  pub lined : bad_child"),
+        ("admission/proofs/Typed.antt", "      ∙ cond-false (bad_child", "      ∙ cond-false (own_child bytes node (table t) r) _ _ p.other\n      ∙ cond-false (bad_child"),
+        ("admission/proofs/Typed.antt", "{bad_child, bad_table, higher,", "{bad_child, own_child, bad_table, higher,"),
+        ("admission/proofs/Sound.antt", "    let c5 = cond_none (bad_child bytes node (table t) r) 5 _ c4.1 in\n",
+         "    let own = cond_none (own_child bytes node (table t) r) 6 _ c4.1 in\n    let c5 = cond_none (bad_child bytes node (table t) r) 5 _ own.1 in\n"),
+        ("admission/proofs/Sound.antt", "{bad_buffer, bad_child, bad_order,", "{own_child, bad_buffer, bad_child, bad_order,"),
     ]),
     Change("reach-before-order", "9 is asked before 8", [
         ("admission/specs/FirstFault.antt",
@@ -138,7 +159,7 @@ CHANGES = [
     Change("no-depth", "slots change no more further down: of no node", [
         ("image/specs/Levels.antt", "node < nodes bytes →", "node < 0 →"),
         ("image/specs/Levels.antt", "use Rattle.layout.specs.Records.{nodes}\n", ""),
-        ("image/proofs/Levels.antt", "  deep_enough node row there more = levels_same", "  deep_enough node row none more = let there = omega (arith, none) in levels_same"),
+        ("image/proofs/Levels.antt", "  deep_enough node row there more = levels_same", "  deep_enough node row none more = let there : node < nodes bytes = omega (arith, none) in levels_same"),
     ]),
     # summary
     Change("nulls-to-255", "more than 255 nulls count as 255", [
@@ -166,7 +187,6 @@ CHANGES = [
     ]),
     Change("no-words-one-to-one", "two numbers are combined one-to-one: words below 1", [
         ("hash_state/specs/Combine.antt", "a < 2 ^ 64 → b < 2 ^ 64 →", "a < 1 → b < 1 →"),
-        ("hash_state/specs/Combine.antt", "◌^◌, ◌<◌, Bool", "◌^◌, ◌<◌, Bool"),
     ]),
     # row_rule
     Change("value-before-key", "a map's value is led before its key", [
@@ -193,6 +213,74 @@ CHANGES = [
         ("row_rule/proofs/Below.antt", "stays_below ONE SEED one seed = number_word ONE SEED one seed",
          "stays_below ONE SEED one seed first e s h = number_word ONE SEED one seed first e s (omega (arith, h))"),
     ]),
+    # columns
+    Change("all-work-open", "every word of the work is open to a column", [
+        ("columns/specs/Open.antt", "is_open claimed work k = nat_le claimed k && nat_lt k work", "is_open claimed work k = true"),
+        ("columns/specs/Open.antt", "Bool, false, ◌&&◌, List, length, nat_le, nat_lt, slice_index", "Bool, true, false, List, length, slice_index"),
+        ("columns/proofs/Open.antt", "closed_below : (claimed work k : ℕ) → k < claimed → is_open claimed work k ≡ false\n"
+         "closed_below claimed work k l = ap (λ (b : Bool). b && ltb k work) (lt-leb claimed k l)\n", ""),
+        ("columns/proofs/Open.antt", "closed claimed work k e l = ltb-false k work (sym (ap (λ (b : Bool). b && ltb k work) (le-leb claimed k l)) ∙ e)", "closed claimed work k e l = cc"),
+        ("columns/proofs/Open.antt", "pub claimed_stay : (claimed n : ℕ) (w w' : List ℕ) → OthersStay (is_open claimed n) w w' → take claimed w' ≡ take claimed w\n"
+         "claimed_stay claimed n w w' stay = take_same claimed w' w stay.0 (λ k l. stay.1 k (closed_below claimed n k l))\n", ""),
+        ("columns/proofs/Open.antt", "    by_place k shut (inl l) = closed_below at n k l\n", "    by_place k shut (inl l) = shut\n"),
+        ("columns/proofs/Open.antt", "        let past : n ≤ k = elim (cases_lt k claimed) [ inl m ↦ omega arith | inr m ↦ closed claimed n k shut m ] in\n"
+         "        ap (λ (b : Bool). b && ltb k n) (le-leb at k l) ∙ le-ltb k n past\n", "        shut\n"),
+    ]),
+    # runs
+    Change("all-calls-open", "a call opens every word of the work", [
+        ("runs/specs/Open.antt", "opens (column c list lent) accepted k = is_open lent.claimed lent.work k\n", "opens (column c list lent) reply k = true\n"),
+    ]),
+    Change("none-combine", "no list of columns combines", [
+        ("runs/specs/Apart.antt", "all_combine [] = true", "all_combine [] = false"),
+        ("runs/specs/Apart.antt", "Bool, true, ◌&&◌", "Bool, true, false, ◌&&◌"),
+    ]),
+    Change("struct-columns-never-combine", "a column of structs does not combine", [
+        ("runs/specs/Columns.antt", "combining first Struct = true", "combining first Struct = false"),
+    ]),
+    Change("list-columns-never-combine", "columns of lists, list views, fixed-size lists and maps do not combine", [
+        ("runs/specs/Columns.antt", "combining first (ListOf w) = true", "combining first (ListOf w) = false"),
+        ("runs/specs/Columns.antt", "combining first (ListView w) = true", "combining first (ListView w) = false"),
+        ("runs/specs/Columns.antt", "combining first (FixedSizeList p) = true", "combining first (FixedSizeList p) = false"),
+        ("runs/specs/Columns.antt", "combining first Map = true", "combining first Map = false"),
+    ]),
+    Change("dictionary-columns-never-combine", "a column of a dictionary does not combine", [
+        ("runs/specs/Columns.antt", "combining first rest = not first", "combining first (Dictionary w signed) = false\ncombining first rest = not first"),
+        ("runs/specs/Columns.antt", "{Number, Float, View, Struct,", "{Number, Float, View, Dictionary, Struct,"),
+        ("runs/proofs/Staying.antt", "unmarked_combines first (Dictionary w signed) bytes r down row at e = refer_combines first _ e", "unmarked_combines first (Dictionary w signed) bytes r down row at e = cc"),
+    ]),
+    Change("never-enough", "enough entries before the keep: nobody has them", [
+        ("runs/specs/Reordering.antt", "pub before : begun ≤ lent.entries", "pub before : begun < begun"),
+    ]),
+    Change("never-enough-work", "enough work for the keep: nobody has it", [
+        ("runs/specs/Reordering.antt", "pub keep : length l.rows ≤ unclaimed lent", "pub keep : (length l.rows ≤ unclaimed lent) × (unclaimed lent < unclaimed lent)"),
+        ("runs/proofs/Reordering.antt", "keep = omega (arith, e.keep, length-map rows earlier);", "keep = (omega (arith, e.keep.0, length-map rows earlier), e.keep.1);"),
+    ]),
+    Change("same-rows-of-none", "the reordered calls leave the words of no row", [
+        ("runs/specs/Reordering.antt", "(k : ℕ) → k < s'.rows →", "(k : ℕ) → k < 0 →"),
+        ("runs/proofs/Reordering.antt", "let there : k < length l.rows = omega (arith, h, b.rows) in", "let there : k < length l.rows = omega (arith, h) in"),
+    ]),
+    Change("follows-without-rows", "a call follows ledgers without rows", [
+        ("runs/specs/Agreement.antt", "(l : Ledger) → Agrees l s →", "(l : Ledger) → Agrees l s → length l.rows ≡ 0 →"),
+        ("runs/proofs/Agreeing.antt", "follows s q r s' p e l a =", "follows s q r s' p e l a none ="),
+    ]),
+    Change("lasts-before-begin", "what lasts over a list of calls does so after fewer than none", [
+        ("runs/specs/Lasting.antt", "(n : ℕ) → n ≤ length requests →", "(n : ℕ) → n < 0 →", 4),
+        ("runs/specs/Lasting.antt", "◌≤◌, List, length, map, take", "◌<◌, List, length, map, take"),
+    ]),
+    Change("list-before-its-length", "15 is asked before 14 of a column", [
+        ("runs/specs/Refusals.antt",
+         "    cond (not (meeting_of height list == rows)) (Some 14)\n    (cond (not (list_below height list)) (Some 15)\n",
+         "    cond (not (list_below height list)) (Some 15)\n    (cond (not (meeting_of height list == rows)) (Some 14)\n"),
+        ("runs/src/judge.rt",
+         "cond (not (meeting_of height (list_of list.entry) == rows)) (Some 14) (cond (not (list_below height (list_of list.entry))) (Some 15) None)",
+         "cond (not (list_below height (list_of list.entry))) (Some 15) (cond (not (meeting_of height (list_of list.entry) == rows)) (Some 14) None)"),
+        ("runs/src/judge.rt", "    if list.len() != rows as usize {\n        return Err(RunFault::Length);\n    }\n    check_list(list, height)\n",
+         "    check_list(list, height)?;\n    if list.len() != rows as usize {\n        return Err(RunFault::Length);\n    }\n    Ok(())\n"),
+        ("runs/proofs/Going.antt", "    let f = passed _ 14 _ both.1 in\n    let g = passed _ 15 _ f.1 in\n    let h = passed _ 16 _ g.1 in\n",
+         "    let g = passed _ 15 _ both.1 in\n    let f = passed _ 14 _ g.1 in\n    let h = passed _ 16 _ f.1 in\n"),
+        ("runs/proofs/Reordering.antt", "(cond-false _ _ _ (ap not (eq-eqb _ _ g.as_many)) ∙ cond-false _ _ _ (ap not g.below) ∙",
+         "(cond-false _ _ _ (ap not g.below) ∙ cond-false _ _ _ (ap not (eq-eqb _ _ g.as_many)) ∙"),
+    ]),
 ]
 
 
@@ -211,14 +299,21 @@ class Copy:
     def write(self, name, text):
         """A file with another text, or None for none."""
         path = self.root / name
-        self.before.setdefault(name, path.read_text())
+        self.before.setdefault(name, path.read_text() if path.exists() else None)
+        self.put(path, text)
+
+    def put(self, path, text):
+        """A file's text, or None for none."""
         if text is None:
             path.unlink()
         else:
+            path.parent.mkdir(parents=True, exist_ok=True)
             path.write_text(text)
 
     def exchange(self, name, old, new, times=1):
-        """One text for another, which stands there once or so many times."""
+        """One text for another, which stands there once or so many times; of no old text, a file that there is not."""
+        if not old:
+            return self.write(name, new)
         text = (self.root / name).read_text()
         if text.count(old) != times:
             sys.exit(f"redefine: {text.count(old)} times in {name}: {old}")
@@ -227,7 +322,7 @@ class Copy:
     def restore(self, names=None):
         """Every file, or these, as it was."""
         for name in list(self.before if names is None else names):
-            (self.root / name).write_text(self.before.pop(name))
+            self.put(self.root / name, self.before.pop(name))
 
 
 def crates_of(copy):
@@ -240,9 +335,9 @@ def check(copy, crate):
     """Whether a crate is proved; else the functions that are not, as far as the check says, and its first errors."""
     done = subprocess.run(["rt", "check"], cwd=copy.root / "crates" / crate, stdin=subprocess.DEVNULL, capture_output=True, text=True)
     said = done.stdout + done.stderr
-    open_ = re.findall(r"^fn (\S+): not proved", said, re.M)
+    unproved = re.findall(r"^fn (\S+): not proved", said, re.M)
     wrong = re.findall(r"^(?:\./)?(\S+?):\d+:\d+: error: `(.+?)`: ", said, re.M)
-    return done.returncode == 0 and not open_, open_, wrong, said
+    return done.returncode == 0 and not unproved, unproved, wrong, said
 
 
 def speaking_of(copy, crate):
@@ -291,34 +386,40 @@ def stored(copy):
         folder = copy.root / "crates" / program
         data = [f"--data={file.name}={file}" for file in sorted(folder.glob("data/*"))]
         done = subprocess.run(["rt", "try", "--seconds", "600", *data, *arguments], cwd=folder, stdin=open(folder / "stdin"), capture_output=True, text=True)
+        if "run=ended" not in done.stdout + done.stderr:
+            sys.exit(f"redefine: {program} does not end on its stored cases: {done.stderr[-500:]}")
         asked = [line for line in (folder / "stdin").read_text().splitlines() if line and not line.startswith("#")]
-        for number, (got, wanted) in enumerate(zip(done.stdout.splitlines() + [""], (folder / "stdout").read_text().splitlines())):
-            if got != wanted:
-                return f"{program}: {asked[number][:60] if program == 'rowhash' else ''} is answered {got or 'nothing'}, not {wanted}"
+        wanted = (folder / "stdout").read_text().splitlines()
+        for number, line in enumerate(wanted):
+            got = dict(enumerate(done.stdout.splitlines())).get(number, "nothing")
+            if got != line:
+                return f"{program}: {asked[number][:60] if program == 'rowhash' else 'line'} .. is answered {got}, not {line}"
     return None
 
 
-def noticed(copy, change):
-    """What notices a change, or None; and what is to be said of the crate."""
-    crate = change.crate
-    proved, open_, wrong, said = check(copy, crate)
+def clauses(function, wrong):
+    """The clauses of a function that the check's errors are about, by their lemmas."""
+    folder = "/".join(["proofs", *function.split("::")[1:]])
+    return dict.fromkeys(name for file, name in wrong if file.startswith(folder))
+
+
+def noticed(copy, crate):
+    """What notices that a crate is changed, or None."""
+    proved, unproved, wrong, said = check(copy, crate)
     if not proved:
-        if COMPUTED & set(open_):
-            return f"{', '.join(sorted(COMPUTED & set(open_)))}, in its own crate", ""
-        return f"a proof of its own crate: {', '.join(open_) or wrong or said[-300:]}", ""
+        lines = COMPUTED & set(unproved)
+        return ", ".join(sorted(lines)) if lines else f"its own crate: {', '.join(unproved) or wrong or said[-500:]}"
     for _, module, specs, below in speaking_of(copy, crate):
         before = set(copy.before)
         cut(copy, module, specs, below)
-        proved, open_, wrong, said = check(copy, "tables")
+        proved, unproved, wrong, said = check(copy, "tables")
         copy.restore(set(copy.before) - before)
+        mine = [name for name in unproved if name.startswith("tables::")]
+        if mine:
+            return "; ".join(f"{name}: {', '.join(clauses(name, wrong))}" for name in sorted(mine))
         if not proved:
-            mine = sorted(name for name in open_ if name.startswith("tables::"))
-            if not mine:
-                print(f"    above {crate} is not proved: {', '.join(open_) or said[-300:]}")
-                continue
-            lines = [name for file, name in wrong if file.startswith("proofs/")]
-            return f"{', '.join(mine)}: {', '.join(dict.fromkeys(lines))}", ""
-    return stored(copy), ""
+            print(f"    {module} is not asked, since a crate below it is not proved: {', '.join(unproved) or said[-500:]}")
+    return stored(copy)
 
 
 def main():
@@ -340,7 +441,7 @@ def main():
         for change in chosen:
             for file, old, new, *times in change.texts:
                 copy.exchange(f"crates/{file}", old, new, *times)
-            by, _ = noticed(copy, change)
+            by = noticed(copy, change.crate)
             copy.restore()
             missed += by is None
             print(f"{change.name}: {by or 'NOT NOTICED'}", flush=True)

@@ -1,5 +1,5 @@
 -- Numbers, bits, records and views as they stand in bytes, as docs/FORMAT.md says.
-use Rattle.std.specs.Prelude.{◌≡◌, ℕ, ◌+◌, Bool, true, false, List, [], ◌∷◌, ◌++◌, map, length, Some, None}
+use Rattle.std.specs.Prelude.{◌≡◌, ℕ, true, false, List, [], ◌∷◌, ◌++◌, map, Some, None}
 use Rattle.layout.specs.declared.bytes.Width.TheVariants.{One, Two, Four, Eight}
 use Rattle.layout.specs.declared.data_type.DataType.TheVariants.{Boolean, RunEnd}
 use Rattle.layout.specs.Bytes.{bit, field}

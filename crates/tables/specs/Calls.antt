@@ -1,8 +1,6 @@
 -- Calls of a run, as docs/RUNS.md lists them.
-use Rattle.std.specs.Prelude.{◌≡◌, ℕ, Bool, true, false, List, [], ◌∷◌, ◌++◌, map, replicate, Some, None, Option}
+use Rattle.std.specs.Prelude.{◌≡◌, ℕ, true, false, List, [], ◌∷◌, ◌++◌, map, length, replicate, Some, None}
 use Rattle.std.specs.List.{range_with_len}
-use Rattle.layout.specs.declared.record.Record.{Record}
-use Rattle.layout.specs.declared.data_type.DataType.{DataType}
 use Rattle.runs.specs.declared.call.Lent.{Lent}
 use Rattle.runs.specs.declared.fault.RunFault.TheVariants.{Entries, Columns, Node, Length, Listed, Work, Row}
 use Rattle.runs.specs.Apart.{all_combine}
@@ -11,7 +9,7 @@ use Rattle.runs.specs.Columns.{Column, all_below, combines, combining, height, i
 use Rattle.runs.specs.Ledger.{begun}
 use Rattle.runs.specs.Refusals.{begin_refusal, column_refusal, keep_refusal, read_refusal, unclaimed}
 use Rattle.runs.specs.Open.{opened, opens}
-use Rattle.runs.specs.Requests.{Request, column, keep, read, accepted, refused, row_read}
+use Rattle.runs.specs.Requests.{column, keep, read, accepted, refused, row_read}
 use Rattle.runs.specs.Runs.{fault_number}
 use Rattle.tables.specs.Images.{image, plain, words}
 use Rattle.tables.specs.Types.{types}
@@ -120,6 +118,14 @@ KeepRefusals =
     ∷ keep_refusal 2 (1 ∷ 2 ∷ 1 ∷ []) (lent 3 2 0)
     ∷ [])
     ≡ (None ∷ Some 11 ∷ Some 14 ∷ Some 15 ∷ Some 16 ∷ Some 11 ∷ Some 14 ∷ Some 15 ∷ [])
+
+-- a keep of 1,048,576 rows, whichever they are, and of one more
+abbrev pub KeepLimit : Type 0
+KeepLimit =
+    (list : List ℕ)
+    → all_below 2 list ≡ true
+    → (length list ≡ 1048576 → keep_refusal 2 list (lent 1048577 1048577 0) ≡ None)
+    × (length list ≡ 1048577 → keep_refusal 2 list (lent 1048577 1048577 0) ≡ Some 14)
 
 -- a read in a run of two rows: the last row, one behind it, with entries one too few, and 11 before 17
 abbrev pub ReadRefusals : Type 0

@@ -1,11 +1,10 @@
 -- Hashes, and what values tell a hasher, as docs/ROW_NUMBERS.md says.
-use Rattle.std.specs.Prelude.{◌≡◌, ℕ, ◌-◌, ◌^◌, Bool, true, false, List, [], ◌∷◌, map, replicate}
-use Rattle.std.specs.List.{range_with_len}
+use Rattle.std.specs.Prelude.{◌≡◌, ℕ, ◌-◌, ◌^◌, true, false, [], ◌∷◌, map, replicate}
 use Rattle.hash_state.specs.Combine.{C, OneToOne, later}
 use Rattle.hash_state.specs.Fnv.{fnv1a, offset_basis}
 use Rattle.hash_state.specs.Sip.{siphash}
 use Rattle.hash_state.specs.Values.{binary, boolean, float, float_bits, nothing, number, seeded_float, text}
-use Rattle.hash_state.specs.Writes.{Write, Bytes, Pair, Word, bytes_of, joined, le_bytes}
+use Rattle.hash_state.specs.Writes.{Bytes, Pair, Word, joined}
 
 -- SipHash-2-4 under the published key, the bytes 0 to 15, of so many bytes that are each 7
 abbrev pub of_sevens : ℕ → ℕ

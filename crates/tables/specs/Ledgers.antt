@@ -1,12 +1,12 @@
 -- The laws of runs at a ledger, as docs/RUNS.md says.
-use Rattle.std.specs.Prelude.{◌≡◌, ℕ, ◌≤◌, Bool, true, false, List, [], ◌∷◌, take, slice_index, Some, None}
+use Rattle.std.specs.Prelude.{◌≡◌, ℕ, true, List, [], ◌∷◌, take, slice_index, Some, None}
 use Rattle.hash_state.specs.Writes.{Write}
 use Rattle.columns.specs.Open.{OthersStay}
-use Rattle.image.specs.Slot.{Slot, boolean, number, struct, done, ◌⨾◌}
+use Rattle.image.specs.Slot.{boolean, number, struct, done, ◌⨾◌}
 use Rattle.row_rule.specs.Number.{number_of}
 use Rattle.runs.specs.declared.call.Lent.{Lent}
 use Rattle.runs.specs.Agreement.{Agrees, Follows}
-use Rattle.runs.specs.Apart.{StaysApart, all_combine}
+use Rattle.runs.specs.Apart.{StaysApart}
 use Rattle.runs.specs.Lasting.{Lasting, begun_state}
 use Rattle.runs.specs.Ledger as ledger
 use Rattle.runs.specs.Ledger.{Ledger, Row, answers, begun, row_at, run}

@@ -1,6 +1,5 @@
 -- Rows that are marked null, counted.
-use Rattle.std.specs.Prelude.{◌≡◌, ℕ, ◌+◌, List, [], ◌∷◌, ◌++◌, map, replicate, Some, None, Option}
-use Rattle.layout.specs.declared.record.Record.{Record}
+use Rattle.std.specs.Prelude.{◌≡◌, ℕ, List, [], ◌∷◌, ◌++◌, replicate, Some, None, Option}
 use Rattle.summary.specs.Nulls.{nulls_of}
 use Rattle.tables.specs.Images.{image, plain, words}
 

@@ -1,13 +1,11 @@
 -- Refusals 7 to 10, as docs/FORMAT.md lists them.
-use Rattle.std.specs.Prelude.{◌≡◌, ℕ, ◌+◌, ◌-◌, ◌*◌, Bool, true, false, List, [], ◌∷◌, ◌++◌, map, length, replicate, Some, None, Option}
+use Rattle.std.specs.Prelude.{◌≡◌, ℕ, ◌-◌, true, false, List, [], ◌∷◌, ◌++◌, map, length, replicate, Some, None, Option}
 use Rattle.layout.specs.declared.bytes.Width.TheVariants.{Four, Eight}
-use Rattle.layout.specs.declared.record.Record.{Record}
-use Rattle.layout.specs.declared.data_type.DataType.{DataType}
 use Rattle.layout.specs.declared.data_type.DataType.TheVariants.{Boolean, Number, Float, Utf8, Binary, FixedSizeBinary, View, Dictionary, List as ListOf, ListView, Map}
 use Rattle.admission.specs.FirstFault.{first_fault}
-use Rattle.admission.specs.Rejections.{bad_buffer, bad_offsets, bad_values}
+use Rattle.admission.specs.Rejections.{bad_offsets, bad_values}
 use Rattle.tables.specs.Faults.{long, short}
-use Rattle.tables.specs.Images.{image, little, plain, words}
+use Rattle.tables.specs.Images.{image, plain, words}
 
 -- 7: a buffer that ends with the image and one that is a byte longer, of 9 elements, one of them before the first row: bits, values, offsets, of which there is one more, values of 3 bytes, views, keys, offsets, offsets of a list view with its sizes, and offsets of a map
 abbrev pub Buffers : Type 0

@@ -1,11 +1,11 @@
 -- The slots of images, as docs/FORMAT.md says.
-use Rattle.std.specs.Prelude.{◌≡◌, ℕ, zero, suc, ◌+◌, ◌*◌, Bool, true, false, List, [], ◌∷◌, ◌++◌, map, replicate, Ok, Err, Result}
+use Rattle.std.specs.Prelude.{◌≡◌, ℕ, zero, suc, ◌+◌, true, false, List, [], ◌∷◌, ◌++◌, map, replicate, Ok, Err}
 use Rattle.std.specs.List.{range_with_len}
 use Rattle.layout.specs.declared.record.Record.{Record}
 use Rattle.image.specs.Levels.{DeepEnough}
 use Rattle.image.specs.Read.{slot_at, slot_within}
 use Rattle.image.specs.Slot.{Slot, null, nothing, boolean, number, float, text, binary, view, refer, struct, sequence, entries, done, ◌⨾◌, none, entry}
-use Rattle.image.specs.Values.{Value, a_number, handed_out, kind_alone, null_mark, value_answer}
+use Rattle.image.specs.Values.{a_number, handed_out, kind_alone, null_mark, value_answer}
 use Rattle.tables.specs.Faults.{long, short}
 use Rattle.tables.specs.Images.{image, little, plain, structs, words}
 

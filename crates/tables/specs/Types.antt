@@ -1,11 +1,8 @@
 -- The types of columns and what they say of a node, as docs/FORMAT.md lists them.
-use Rattle.std.specs.Prelude.{◌≡◌, ℕ, Bool, true, false, List as ListOf, [], ◌∷◌, map, replicate, Some, None, Option}
-use Rattle.layout.specs.declared.bytes.Width.{Width}
+use Rattle.std.specs.Prelude.{◌≡◌, ℕ, true, false, List as ListOf, [], ◌∷◌, map, replicate, Some, None, Option}
 use Rattle.layout.specs.declared.bytes.Width.TheVariants.{One, Two, Four, Eight}
-use Rattle.layout.specs.declared.record.Record.{Record}
 use Rattle.layout.specs.declared.data_type.DataType.{DataType}
 use Rattle.layout.specs.declared.data_type.DataType.TheVariants.{Null, Boolean, Number, Float, Utf8, Binary, FixedSizeBinary, View, Dictionary, Struct, List, ListView, Map, FixedSizeList, RunEnd}
-use Rattle.layout.specs.declared.data_type.Table.{Table}
 use Rattle.layout.specs.declared.data_type.Table.TheVariants.{Unread, Children, Pairs}
 use Rattle.layout.specs.Bytes.{negative, wide}
 use Rattle.layout.specs.Nodes.{bitmap_bytes, child_count, reads_nulls, table}

@@ -1,9 +1,8 @@
 -- The work of columns.
-use Rattle.std.specs.Prelude.{◌≡◌, ℕ, Bool, true, false, List, [], ◌∷◌, ◌++◌, map, length, replicate, slice_index, Some, None}
+use Rattle.std.specs.Prelude.{◌≡◌, ℕ, true, false, List, [], ◌∷◌, ◌++◌, map, length, replicate, slice_index, Some, None}
 use Rattle.std.specs.List.{range_with_len}
-use Rattle.layout.specs.declared.record.Record.{Record}
-use Rattle.leaves.specs.Rows.{is_leaf, row_of}
-use Rattle.columns.specs.Column.{met_rows, node_need}
+use Rattle.leaves.specs.Rows.{is_leaf}
+use Rattle.columns.specs.Column.{node_need}
 use Rattle.columns.specs.Open.{OthersStay, is_open}
 use Rattle.tables.specs.Images.{image, plain, words}
 use Rattle.tables.specs.Types.{types}

@@ -1,6 +1,6 @@
 // Calls of a run, by docs/RUNS.md.
 ghost use Rattle.std.specs.Prelude.{◌≡◌, true};
-ghost use Rattle.tables.specs.Calls.{AllCombine, BeginLimit, ColumnLimits, ColumnOrder, CombiningFirst, CombiningLater, KeepRefusals, MadeCalls, Misuses, OpenedByCalls, OpenedWords, ReadRefusals, RefusalNumbers, RowsMet, TableCombines, TableRows, Unclaimed};
+ghost use Rattle.tables.specs.Calls.{AllCombine, BeginLimit, ColumnLimits, ColumnOrder, CombiningFirst, CombiningLater, KeepLimit, KeepRefusals, MadeCalls, Misuses, OpenedByCalls, OpenedWords, ReadRefusals, RefusalNumbers, RowsMet, TableCombines, TableRows, Unclaimed};
 ghost use Rattle.tables.specs.Ledgers.{BegunAgrees, CallsLast, KeptApart, KeptComesAgain, KeptRows, ReadFollows, RefusedKeepsWork, RoomIsEnough};
 
 // Which columns combine, which rows are met, and which calls are made.
@@ -29,6 +29,7 @@ pub fn refusals_hold() -> bool
     ensures columns { ColumnLimits }
     ensures order { ColumnOrder }
     ensures keeps { KeepRefusals }
+    ensures keep_limit { KeepLimit }
     ensures reads { ReadRefusals }
 {
     true

@@ -1,4 +1,4 @@
-use Rattle.std.proofs.Common.{◌≡◌, lit≤, refl}
+use Rattle.std.proofs.Common.{lit≤, refl}
 use Rattle.tables.specs.Ledgers.{BegunAgrees, CallsLast, ReadFollows, RefusedKeepsWork, one_column}
 use Rattle.tables.proofs.calls.calls_follow.Goals as goal
 

@@ -1,5 +1,5 @@
 use Rattle.std.proofs.Common.{refl}
-use Rattle.tables.specs.Calls.{BeginLimit, ColumnLimits, ColumnOrder, KeepRefusals, ReadRefusals, RefusalNumbers, Unclaimed}
+use Rattle.tables.specs.Calls.{BeginLimit, ColumnLimits, ColumnOrder, KeepLimit, KeepRefusals, ReadRefusals, RefusalNumbers, Unclaimed}
 use Rattle.tables.proofs.calls.refusals_hold.Goals as goal
 
 unclaimed : Unclaimed
@@ -23,6 +23,9 @@ keeps = refl
 reads : ReadRefusals
 reads = refl
 
+keep_limit : KeepLimit
+keep_limit list below = (λ long. rw (long, below) refl, λ long. rw long refl)
+
 pub returns-clause-unclaimed : goal.returns-clause-unclaimed
 returns-clause-unclaimed c = unclaimed
 
@@ -43,3 +46,6 @@ returns-clause-keeps c = keeps
 
 pub returns-clause-reads : goal.returns-clause-reads
 returns-clause-reads c = reads
+
+pub returns-clause-keep_limit : goal.returns-clause-keep_limit
+returns-clause-keep_limit c = keep_limit

@@ -1,4 +1,4 @@
-use Rattle.std.proofs.Common.{◌≡◌, arith, lit<, lit≤, refl}
+use Rattle.std.proofs.Common.{arith, lit<, lit≤, refl}
 use Rattle.tables.specs.Ledgers.{KeptApart, KeptComesAgain, KeptRows, RoomIsEnough, kept, room}
 use Rattle.runs.specs.Reordering.{Enough}
 use Rattle.tables.proofs.calls.rows_come_again.Goals as goal

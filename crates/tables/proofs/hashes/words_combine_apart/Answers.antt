@@ -1,4 +1,4 @@
-use Rattle.std.proofs.Common.{◌≡◌, ◌-◌, ◌^◌, arith, lit<}
+use Rattle.std.proofs.Common.{◌-◌, ◌^◌, arith, lit<}
 use Rattle.tables.specs.Hashes.{CombinedApart}
 use Rattle.tables.proofs.hashes.words_combine_apart.Goals as goal
 
