@@ -21,11 +21,8 @@ MOST_PARAMETERS = 6
 MOST_LINES = 40
 MOST_LOOPS = 1
 
-# a function and what of it breaks a limit, with the reason
-EXCEPTIONS = {
-    "bench_hash::rt_fnv_kind parameters": "C hands over plain words, one by one",
-    "bench_hash::rt_sip_kind parameters": "C hands over plain words, one by one",
-}
+# a function and what of it breaks a limit, with the reason: none
+EXCEPTIONS = {}
 
 
 def broken(function):

@@ -1,8 +1,10 @@
 #!/usr/bin/env python3
 """Measure how long the check of each crate takes from nothing, for the table of an entry in docs/CHANGES.md.
 
-    tools/measure.py COMMIT [--lanes N] [--new]   a line for each crate: its name and its seconds
-    tools/measure.py --table BEFORE AFTER         the lines of two such runs, kept in files, as rows of a table
+    tools/measure.py COMMIT [CRATE ..] [--lanes N] [--new]   a line for each crate: its name and its seconds
+    tools/measure.py --table BEFORE AFTER    the lines of two such runs, kept in files, as rows of a table
+
+Where crates are named, it measures these and those that they stand on.
 
 A crate's seconds are the processor's, of all processes that took part in `rt ci NAME` once the crates below it were
 proved: its proof, its must-fail edits, its tests and its runs. They differ little between a busy machine and an idle
@@ -34,6 +36,12 @@ def listed(text):
     return {name: [it for it in below.split() if it in names] for name, (_, _, below) in zip(names, lines)}
 
 
+def chosen_of(crates, names):
+    """The crates that are named and those below them, or all."""
+    wanted = {it for name in names or crates for it in (name, *crates[name])}
+    return {name: below for name, below in crates.items() if name in wanted}
+
+
 def copied(commit, folder, new):
     """Puts the files of a commit into a folder, each crate unlike any that was proved before."""
     packed = subprocess.run(["git", "archive", commit], cwd=ROOT, check=True, capture_output=True).stdout
@@ -55,11 +63,11 @@ def measured(folder, name):
     return used.ru_utime + used.ru_stime, None if passed else said
 
 
-def measure(commit, lanes, new):
+def measure(commit, names, lanes, new):
     """Prints a line for each crate, once those that it stands on are proved."""
     with tempfile.TemporaryDirectory() as folder, ThreadPoolExecutor(lanes) as pool:
         copied(commit, folder, new)
-        left = listed((Path(folder) / "crates.txt").read_text())
+        left = chosen_of(listed((Path(folder) / "crates.txt").read_text()), names)
         done, running = set(), {}
         while left or running:
             for name in [it for it, below in left.items() if done.issuperset(below)]:
@@ -90,6 +98,7 @@ def table(before, after):
 def main():
     parser = argparse.ArgumentParser(description=__doc__, formatter_class=argparse.RawDescriptionHelpFormatter)
     parser.add_argument("commit", nargs="?")
+    parser.add_argument("crates", nargs="*")
     parser.add_argument("--lanes", type=int, default=1)
     parser.add_argument("--new", action="store_true")
     parser.add_argument("--table", nargs=2, metavar=("BEFORE", "AFTER"))
@@ -97,7 +106,7 @@ def main():
     if chosen.table:
         table(*chosen.table)
     elif chosen.commit:
-        measure(chosen.commit, chosen.lanes, chosen.new)
+        measure(chosen.commit, chosen.crates, chosen.lanes, chosen.new)
     else:
         parser.error("name a commit, or two files after --table")
 
