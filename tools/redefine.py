@@ -32,7 +32,10 @@ COMPUTED = {"row_rule::worked_numbers_hold"}
 
 @dataclass
 class Change:
-    """A definition and its code, read otherwise: the crate, and (file of crates/, old text or none for a new file, new text, how often the old one stands there if not once)."""
+    """A definition and its code, read otherwise.
+
+    Each text is a file of crates/, what stands there (nothing for a new file), what is to, and how often if not once.
+    """
     name: str
     says: str
     texts: list
@@ -51,14 +54,20 @@ CHANGES = [
     Change("two-of-a-list-view", "a list view has 1 or 2 children", [
         ("layout/specs/Nodes.antt", "table (ListView w) = Children 1 1", "table (ListView w) = Children 1 2"),
         ("layout/src/data_type.rt", "            | DataType::ListView(_)\n", ""),
-        ("layout/src/data_type.rt", "            DataType::Map => Table::Children(2, 2),",
-         "            DataType::Map => Table::Children(2, 2),\n            DataType::ListView(_) => Table::Children(1, 2),"),
+        ("layout/src/data_type.rt",
+         "            DataType::Map => Table::Children(2, 2),",
+         "            DataType::Map => Table::Children(2, 2),\n"
+         "            DataType::ListView(_) => Table::Children(1, 2),"),
     ]),
     Change("many-of-a-fixed-list", "a fixed-size list has 1 to 255 children", [
-        ("layout/specs/Nodes.antt", "table (FixedSizeList p) = Children 1 1", "table (FixedSizeList p) = Children 1 255"),
+        ("layout/specs/Nodes.antt",
+         "table (FixedSizeList p) = Children 1 1",
+         "table (FixedSizeList p) = Children 1 255"),
         ("layout/src/data_type.rt", "            | DataType::FixedSizeList(_)\n", ""),
-        ("layout/src/data_type.rt", "            DataType::Map => Table::Children(2, 2),",
-         "            DataType::Map => Table::Children(2, 2),\n            DataType::FixedSizeList(_) => Table::Children(1, 255),"),
+        ("layout/src/data_type.rt",
+         "            DataType::Map => Table::Children(2, 2),",
+         "            DataType::Map => Table::Children(2, 2),\n"
+         "            DataType::FixedSizeList(_) => Table::Children(1, 255),"),
     ]),
     Change("narrow-binary-offsets", "kind 7 may have offsets of 1 and 2 bytes", [
         ("layout/specs/Types.antt", "(option_map Binary (width r.p 4))", "(option_map Binary (width r.p 1))"),
@@ -74,12 +83,16 @@ CHANGES = [
         ("layout/src/bytes.rt", ">> (index % 8)) % 2", ">> (7 - index % 8)) % 2"),
     ]),
     Change("marks-by-ones", "a row is marked null where its bit is 1", [
-        ("layout/specs/Nodes.antt", "&& not (bit bytes r.nulls (r.start + row))", "&& bit bytes r.nulls (r.start + row)"),
+        ("layout/specs/Nodes.antt",
+         "&& not (bit bytes r.nulls (r.start + row))",
+         "&& bit bytes r.nulls (r.start + row)"),
         ("layout/src/column.rt", "&& !bit_at(", "&& bit_at("),
     ]),
     Change("runs-have-bitmaps", "NULLS of a run-end column is read", [
         ("layout/specs/Nodes.antt", "reads_nulls (RunEnd w) = false\n", ""),
-        ("layout/src/data_type.rt", "!matches!(self, DataType::Null | DataType::RunEnd(_))", "!matches!(self, DataType::Null)"),
+        ("layout/src/data_type.rt",
+         "!matches!(self, DataType::Null | DataType::RunEnd(_))",
+         "!matches!(self, DataType::Null)"),
     ]),
     Change("large-fixed-sizes", "kinds 8 and 15 have sizes up to 65,536", [
         ("layout/specs/Types.antt", "nat_le r.p 65535", "nat_le r.p 65536", 2),
@@ -94,76 +107,130 @@ CHANGES = [
         ("admission/specs/FirstFault.antt",
          "    cond (too_long r) (Some 3)\n    (cond (bad_table (length bytes) (table t) r) (Some 4)\n",
          "    cond (bad_table (length bytes) (table t) r) (Some 4)\n    (cond (too_long r) (Some 3)\n"),
-        ("admission/src/check.rt", "    if is_too_long(&column.record) {\n        return Err(ImageFault::Length(node));\n    }\n", ""),
-        ("admission/src/check.rt", "        return Err(ImageFault::Table(node));\n    }\n",
-         "        return Err(ImageFault::Table(node));\n    }\n    if is_too_long(&column.record) {\n        return Err(ImageFault::Length(node));\n    }\n"),
-        ("admission/proofs/Sound.antt", "let c3 = cond_none (too_long r) 3 _ e in", "let c4 = cond_none (bad_table (length bytes) (table t) r) 4 _ e in"),
-        ("admission/proofs/Sound.antt", "let c4 = cond_none (bad_table (length bytes) (table t) r) 4 _ c3.1 in", "let c3 = cond_none (too_long r) 3 _ c4.1 in"),
+        ("admission/src/check.rt",
+         "    if is_too_long(&column.record) {\n        return Err(ImageFault::Length(node));\n    }\n",
+         ""),
+        ("admission/src/check.rt",
+         "        return Err(ImageFault::Table(node));\n    }\n",
+         "        return Err(ImageFault::Table(node));\n    }\n    if is_too_long(&column.record) {\n"
+         "        return Err(ImageFault::Length(node));\n    }\n"),
+        ("admission/proofs/Sound.antt",
+         "let c3 = cond_none (too_long r) 3 _ e in",
+         "let c4 = cond_none (bad_table (length bytes) (table t) r) 4 _ e in"),
+        ("admission/proofs/Sound.antt",
+         "let c4 = cond_none (bad_table (length bytes) (table t) r) 4 _ c3.1 in",
+         "let c3 = cond_none (too_long r) 3 _ c4.1 in"),
         ("admission/proofs/Sound.antt", "5 _ c4.1 in", "5 _ c3.1 in"),
         ("admission/proofs/Typed.antt",
-         "      ∙ cond-false (too_long r) _ _ p.short\n      ∙ cond-false (bad_table (length bytes) (table t) r) _ _ p.tabled\n",
-         "      ∙ cond-false (bad_table (length bytes) (table t) r) _ _ p.tabled\n      ∙ cond-false (too_long r) _ _ p.short\n"),
+         "      ∙ cond-false (too_long r) _ _ p.short\n"
+         "      ∙ cond-false (bad_table (length bytes) (table t) r) _ _ p.tabled\n",
+         "      ∙ cond-false (bad_table (length bytes) (table t) r) _ _ p.tabled\n"
+         "      ∙ cond-false (too_long r) _ _ p.short\n"),
     ]),
     Change("own-child-is-too-high", "6 is asked before 5 where a node is its own child", [
-        ("admission/specs/Rejections.antt", "-- whether a node's height is above h:",
+        ("admission/specs/Rejections.antt",
+         "-- whether a node's height is above h:",
          "-- a child is the node itself\nabbrev pub own_child : List ℕ → ℕ → Table → Record → Bool\n"
-         "own_child bytes node t r = some_below (listed t r.cnt) (λ k. child bytes r k == node)\n\n-- whether a node's height is above h:"),
+         "own_child bytes node t r = some_below (listed t r.cnt) (λ k. child bytes r k == node)\n\n"
+         "-- whether a node's height is above h:"),
         ("admission/specs/FirstFault.antt",
-         "    (cond (bad_child bytes node (table t) r) (Some 5)\n    (cond (too_high bytes node) (Some 6) (buffer_fault bytes t r))))",
-         "    (cond (own_child bytes node (table t) r) (Some 6)\n    (cond (bad_child bytes node (table t) r) (Some 5)\n    (cond (too_high bytes node) (Some 6) (buffer_fault bytes t r)))))"),
-        ("admission/specs/FirstFault.antt", "{too_long, bad_table, bad_child,", "{own_child, too_long, bad_table, bad_child,"),
-        ("admission/src/table.rt", "// The greatest height of a node's children, 0 without children.",
+         "    (cond (bad_child bytes node (table t) r) (Some 5)\n"
+         "    (cond (too_high bytes node) (Some 6) (buffer_fault bytes t r))))",
+         "    (cond (own_child bytes node (table t) r) (Some 6)\n"
+         "    (cond (bad_child bytes node (table t) r) (Some 5)\n"
+         "    (cond (too_high bytes node) (Some 6) (buffer_fault bytes t r)))))"),
+        ("admission/specs/FirstFault.antt",
+         "{too_long, bad_table, bad_child,",
+         "{own_child, too_long, bad_table, bad_child,"),
+        ("admission/src/table.rt",
+         "// The greatest height of a node's children, 0 without children.",
          "pub(crate) fn is_own_child(column: &Column, node: u32, table: Table) -> bool\n"
          "    requires { bad_table (length column.now.bytes.now) table column.now.record ≡ false }\n"
-         "    ensures { result ≡ own_child column.now.bytes.now node table column.now.record }\n"
-         "{\n    (0..table.listed(column.record.cnt)).any(|index| column.child(index) == node)\n}\n\n"
+         "    ensures { result ≡ own_child column.now.bytes.now node table column.now.record }\n{\n"
+         "    (0..table.listed(column.record.cnt)).any(|index| column.child(index) == node)\n}\n\n"
          "// The greatest height of a node's children, 0 without children."),
         ("admission/src/table.rt", "{bad_child, bad_table,", "{bad_child, own_child, bad_table,"),
-        ("admission/src/check.rt", "    if is_bad_child(", "    if is_own_child(&column, node, table) {\n        return Err(ImageFault::Height(node));\n    }\n    if is_bad_child("),
-        ("admission/src/check.rt", "is_bad_child, is_bad_table, is_too_long", "is_bad_child, is_bad_table, is_own_child, is_too_long"),
-        ("admission/proofs/table/is_own_child/Answers.antt", "",
-         "use Rattle.std.proofs.Common.{refl, rules, tests}\nuse Rattle.admission.proofs.Below.{some_below-from_any}\n"
+        ("admission/src/check.rt",
+         "    if is_bad_child(",
+         "    if is_own_child(&column, node, table) {\n        return Err(ImageFault::Height(node));\n    }\n"
+         "    if is_bad_child("),
+        ("admission/src/check.rt",
+         "is_bad_child, is_bad_table, is_too_long",
+         "is_bad_child, is_bad_table, is_own_child, is_too_long"),
+        ("admission/proofs/table/is_own_child/Answers.antt",
+         "",
+         "use Rattle.std.proofs.Common.{refl, rules, tests}\n"
+         "use Rattle.admission.proofs.Below.{some_below-from_any}\n"
          "use Rattle.admission.proofs.table.is_own_child.Goals as goal\n\npub returns : goal.returns\n"
-         "returns c = rw (← c.listed.ensures) (some_below-from_any _ _ refl c.any.ensures.ran (λ x b q k. search (rules, tests)))\n"),
-        ("admission/proofs/check/check_node/Answers.antt", "      lined = search rules;\n", "      other = search rules;\n      lined = search rules;\n"),
-        ("admission/proofs/Typed.antt", "  pub lined : bad_child", "  pub other : own_child bytes node (table t) r ≡ false\n  pub lined : bad_child"),
-        ("admission/proofs/Typed.antt", "      ∙ cond-false (bad_child", "      ∙ cond-false (own_child bytes node (table t) r) _ _ p.other\n      ∙ cond-false (bad_child"),
-        ("admission/proofs/Typed.antt", "{bad_child, bad_table, higher,", "{bad_child, own_child, bad_table, higher,"),
-        ("admission/proofs/Sound.antt", "    let c5 = cond_none (bad_child bytes node (table t) r) 5 _ c4.1 in\n",
-         "    let own = cond_none (own_child bytes node (table t) r) 6 _ c4.1 in\n    let c5 = cond_none (bad_child bytes node (table t) r) 5 _ own.1 in\n"),
-        ("admission/proofs/Sound.antt", "{bad_buffer, bad_child, bad_order,", "{own_child, bad_buffer, bad_child, bad_order,"),
+         "returns c = rw (← c.listed.ensures) (some_below-from_any _ _ refl c.any.ensures.ran (λ x b q k. search "
+         "(rules, tests)))\n"),
+        ("admission/proofs/check/check_node/Answers.antt",
+         "      lined = search rules;\n",
+         "      other = search rules;\n      lined = search rules;\n"),
+        ("admission/proofs/Typed.antt",
+         "  pub lined : bad_child",
+         "  pub other : own_child bytes node (table t) r ≡ false\n  pub lined : bad_child"),
+        ("admission/proofs/Typed.antt",
+         "      ∙ cond-false (bad_child",
+         "      ∙ cond-false (own_child bytes node (table t) r) _ _ p.other\n      ∙ cond-false (bad_child"),
+        ("admission/proofs/Typed.antt",
+         "{bad_child, bad_table, higher,",
+         "{bad_child, own_child, bad_table, higher,"),
+        ("admission/proofs/Sound.antt",
+         "    let c5 = cond_none (bad_child bytes node (table t) r) 5 _ c4.1 in\n",
+         "    let own = cond_none (own_child bytes node (table t) r) 6 _ c4.1 in\n"
+         "    let c5 = cond_none (bad_child bytes node (table t) r) 5 _ own.1 in\n"),
+        ("admission/proofs/Sound.antt",
+         "{bad_buffer, bad_child, bad_order,",
+         "{own_child, bad_buffer, bad_child, bad_order,"),
     ]),
     Change("reach-before-order", "9 is asked before 8", [
         ("admission/specs/FirstFault.antt",
          "    (cond (bad_order bytes t r) (Some 8)\n    (cond (out_of_reach bytes t r) (Some 9)\n",
          "    (cond (out_of_reach bytes t r) (Some 9)\n    (cond (bad_order bytes t r) (Some 8)\n"),
-        ("admission/src/check.rt", "        if self.is_bad_order() {\n            return Err(ImageFault::Order(node));\n        }\n", ""),
-        ("admission/src/check.rt", "            return Err(ImageFault::Reach(node));\n        }\n",
-         "            return Err(ImageFault::Reach(node));\n        }\n        if self.is_bad_order() {\n            return Err(ImageFault::Order(node));\n        }\n"),
-        ("admission/proofs/Sound.antt", "let c8 = cond_none (bad_order bytes t r) 8 _ c7.1 in", "let c9 = cond_none (out_of_reach bytes t r) 9 _ c7.1 in"),
-        ("admission/proofs/Sound.antt", "let c9 = cond_none (out_of_reach bytes t r) 9 _ c8.1 in", "let c8 = cond_none (bad_order bytes t r) 8 _ c9.1 in"),
+        ("admission/src/check.rt",
+         "        if self.is_bad_order() {\n            return Err(ImageFault::Order(node));\n        }\n",
+         ""),
+        ("admission/src/check.rt",
+         "            return Err(ImageFault::Reach(node));\n        }\n",
+         "            return Err(ImageFault::Reach(node));\n        }\n        if self.is_bad_order() {\n"
+         "            return Err(ImageFault::Order(node));\n        }\n"),
+        ("admission/proofs/Sound.antt",
+         "let c8 = cond_none (bad_order bytes t r) 8 _ c7.1 in",
+         "let c9 = cond_none (out_of_reach bytes t r) 9 _ c7.1 in"),
+        ("admission/proofs/Sound.antt",
+         "let c9 = cond_none (out_of_reach bytes t r) 9 _ c8.1 in",
+         "let c8 = cond_none (bad_order bytes t r) 8 _ c9.1 in"),
         ("admission/proofs/Sound.antt", "10 None c9.1 in", "10 None c8.1 in"),
     ]),
     Change("empty-list-views-anywhere", "a list view of size 0 may have any offset", [
         ("admission/specs/Rejections.antt",
-         "    not (marked bytes r row)\n    && (negative w (element w bytes r.a (r.start + row))\n    || (negative w (element w bytes r.b",
-         "    not (marked bytes r row)\n    && (not (element w bytes r.b (r.start + row) == 0)\n    && (negative w (element w bytes r.a (r.start + row))\n    || (negative w (element w bytes r.b"),
+         "    not (marked bytes r row)\n    && (negative w (element w bytes r.a (r.start + row))\n"
+         "    || (negative w (element w bytes r.b",
+         "    not (marked bytes r row)\n    && (not (element w bytes r.b (r.start + row) == 0)\n"
+         "    && (negative w (element w bytes r.a (r.start + row))\n    || (negative w (element w bytes r.b"),
         ("admission/specs/Rejections.antt",
          "(element w bytes r.a (r.start + row) + element w bytes r.b (r.start + row))))",
          "(element w bytes r.a (r.start + row) + element w bytes r.b (r.start + row)))))"),
         ("admission/src/reach.rt",
-         "        width.negative(offset)\n            || width.negative(size)\n            || is_past(u64::from(self.column.child_rows(0)), offset, size)",
-         "        size != 0\n            && (width.negative(offset)\n                || width.negative(size)\n                || is_past(u64::from(self.column.child_rows(0)), offset, size))"),
+         "        width.negative(offset)\n            || width.negative(size)\n"
+         "            || is_past(u64::from(self.column.child_rows(0)), offset, size)",
+         "        size != 0\n            && (width.negative(offset)\n                || width.negative(size)\n"
+         "                || is_past(u64::from(self.column.child_rows(0)), offset, size))"),
     ]),
     # image
     Change("no-depth", "slots change no more further down: of no node", [
         ("image/specs/Levels.antt", "node < nodes bytes →", "node < 0 →"),
         ("image/specs/Levels.antt", "use Rattle.layout.specs.Records.{nodes}\n", ""),
-        ("image/proofs/Levels.antt", "  deep_enough node row there more = levels_same", "  deep_enough node row none more = let there : node < nodes bytes = omega (arith, none) in levels_same"),
+        ("image/proofs/Levels.antt",
+         "  deep_enough node row there more = levels_same",
+         "  deep_enough node row none more = let there : node < nodes bytes = omega (arith, none) in levels_same"),
     ]),
     # summary
     Change("nulls-to-255", "more than 255 nulls count as 255", [
-        ("summary/specs/Nulls.antt", "option_map (λ r. count_below r.rows (is_null bytes r))", "option_map (λ r. min 255 (count_below r.rows (is_null bytes r)))"),
+        ("summary/specs/Nulls.antt",
+         "option_map (λ r. count_below r.rows (is_null bytes r))",
+         "option_map (λ r. min 255 (count_below r.rows (is_null bytes r)))"),
         ("summary/specs/Nulls.antt", "{ℕ, zero,", "{ℕ, min, zero,"),
         ("summary/src/lib.rt", "    Some(count)\n", "    Some(count.min(255))\n"),
     ]),
@@ -175,60 +242,105 @@ CHANGES = [
         ("hash_state/proofs/Streams.antt", "% 256", "% 128", 18),
     ]),
     Change("one-nan", "all NaNs of a width are hashed as one", [
-        ("hash_state/specs/Values.antt", "float_bits w b = cond (b == 2 ^ (8 * w - 1)) 0 b",
-         "float_bits w b =\n    cond (b == 2 ^ (8 * w - 1)) 0\n    (cond (nat_lt (cond (w == 2) 0x7c00 (cond (w == 4) 0x7f80_0000 0x7ff0_0000_0000_0000)) (b % 2 ^ (8 * w - 1)))\n"
-         "    (cond (w == 2) 0x7e00 (cond (w == 4) 0x7fc0_0000 0x7ff8_0000_0000_0000)) b)"),
+        ("hash_state/specs/Values.antt",
+         "float_bits w b = cond (b == 2 ^ (8 * w - 1)) 0 b",
+         "float_bits w b =\n    cond (b == 2 ^ (8 * w - 1)) 0\n"
+         "    (cond (nat_lt (cond (w == 2) 0x7c00 (cond (w == 4) 0x7f80_0000 0x7ff0_0000_0000_0000)) (b % 2 ^ (8 "
+         "* w - 1)))\n    (cond (w == 2) 0x7e00 (cond (w == 4) 0x7fc0_0000 0x7ff8_0000_0000_0000)) b)"),
         ("hash_state/specs/Values.antt", "◌*◌, ◌^◌, Bool", "◌*◌, ◌%◌, ◌^◌, nat_lt, Bool"),
-        ("hash_state/src/value.rt", "        if self == 0x8000 { 0 } else { self }", "        if self == 0x8000 {\n            0\n        } else if self % 0x8000 > 0x7c00 {\n            0x7e00\n        } else {\n            self\n        }"),
-        ("hash_state/src/value.rt", "        if self == 0x8000_0000 { 0 } else { self }",
-         "        if self == 0x8000_0000 {\n            0\n        } else if self % 0x8000_0000 > 0x7f80_0000 {\n            0x7fc0_0000\n        } else {\n            self\n        }"),
-        ("hash_state/src/value.rt", "        if self == 0x8000_0000_0000_0000 {\n            0\n        } else {",
-         "        if self == 0x8000_0000_0000_0000 {\n            0\n        } else if self % 0x8000_0000_0000_0000 > 0x7ff0_0000_0000_0000 {\n            0x7ff8_0000_0000_0000\n        } else {"),
+        ("hash_state/src/value.rt",
+         "        if self == 0x8000 { 0 } else { self }",
+         "        if self == 0x8000 {\n            0\n        } else if self % 0x8000 > 0x7c00 {\n"
+         "            0x7e00\n        } else {\n            self\n        }"),
+        ("hash_state/src/value.rt",
+         "        if self == 0x8000_0000 { 0 } else { self }",
+         "        if self == 0x8000_0000 {\n            0\n"
+         "        } else if self % 0x8000_0000 > 0x7f80_0000 {\n            0x7fc0_0000\n        } else {\n"
+         "            self\n        }"),
+        ("hash_state/src/value.rt",
+         "        if self == 0x8000_0000_0000_0000 {\n            0\n        } else {",
+         "        if self == 0x8000_0000_0000_0000 {\n            0\n"
+         "        } else if self % 0x8000_0000_0000_0000 > 0x7ff0_0000_0000_0000 {\n"
+         "            0x7ff8_0000_0000_0000\n        } else {"),
     ]),
     Change("no-words-one-to-one", "two numbers are combined one-to-one: words below 1", [
         ("hash_state/specs/Combine.antt", "a < 2 ^ 64 → b < 2 ^ 64 →", "a < 1 → b < 1 →"),
     ]),
     # row_rule
     Change("value-before-key", "a map's value is led before its key", [
-        ("row_rule/specs/Number.antt", "number_of false (number_of true 0 k) v", "number_of false (number_of true 0 v) k"),
+        ("row_rule/specs/Number.antt",
+         "number_of false (number_of true 0 k) v",
+         "number_of false (number_of true 0 v) k"),
     ]),
     Change("map-of-structs", "a map is a list of structs", [
-        ("row_rule/specs/Number.antt", "pairs (C e (number_of false (number_of true 0 k) v)) es", "pairs (C e (C 0 (number_of false (number_of true 0 k) v))) es"),
+        ("row_rule/specs/Number.antt",
+         "pairs (C e (number_of false (number_of true 0 k) v)) es",
+         "pairs (C e (C 0 (number_of false (number_of true 0 k) v))) es"),
     ]),
     Change("references-never-combine", "a reference does not combine", [
-        ("row_rule/specs/Laws.antt", "combines first (refer s) = cond first (is_null s) true", "combines first (refer s) = false"),
-        ("row_rule/proofs/Apart.antt", "apart true (refer s) a b ha hb c e = refer_first (is_null s) _ _ a b c e", "apart true (refer s) a b ha hb c e = no c"),
-        ("row_rule/proofs/Apart.antt", "apart false (refer s) a b ha hb c e = refer_later (is_null s) _ a b ha hb e", "apart false (refer s) a b ha hb c e = no c"),
+        ("row_rule/specs/Laws.antt",
+         "combines first (refer s) = cond first (is_null s) true",
+         "combines first (refer s) = false"),
+        ("row_rule/proofs/Apart.antt",
+         "apart true (refer s) a b ha hb c e = refer_first (is_null s) _ _ a b c e",
+         "apart true (refer s) a b ha hb c e = no c"),
+        ("row_rule/proofs/Apart.antt",
+         "apart false (refer s) a b ha hb c e = refer_later (is_null s) _ a b ha hb e",
+         "apart false (refer s) a b ha hb c e = no c"),
     ]),
     Change("structs-never-combine", "a struct does not combine", [
         ("row_rule/specs/Laws.antt", "combines first (struct ss) = true", "combines first (struct ss) = false"),
-        ("row_rule/proofs/Apart.antt", "apart first (struct ss) a b ha hb c e = C_left a b _ ha hb e", "apart first (struct ss) a b ha hb c e = no c"),
+        ("row_rule/proofs/Apart.antt",
+         "apart first (struct ss) a b ha hb c e = C_left a b _ ha hb e",
+         "apart first (struct ss) a b ha hb c e = no c"),
     ]),
     Change("no-entries-apart", "slots keep entries apart: those below 1", [
         ("row_rule/specs/Laws.antt", "(a b : ℕ) → a < 2 ^ 64 → b < 2 ^ 64\n", "(a b : ℕ) → a < 1 → b < 1\n"),
-        ("row_rule/proofs/Apart.antt", "(apart ONE SEED first s a b ha hb c,", "(apart ONE SEED first s a b (omega (arith, ha)) (omega (arith, hb)) c,"),
+        ("row_rule/proofs/Apart.antt",
+         "(apart ONE SEED first s a b ha hb c,",
+         "(apart ONE SEED first s a b (omega (arith, ha)) (omega (arith, hb)) c,"),
     ]),
     Change("no-entries-below", "numbers stay below 2^64: from entries below 1", [
         ("row_rule/specs/Laws.antt", "→ e < 2 ^ 64 → number_of", "→ e < 1 → number_of"),
-        ("row_rule/proofs/Below.antt", "stays_below ONE SEED one seed = number_word ONE SEED one seed",
+        ("row_rule/proofs/Below.antt",
+         "stays_below ONE SEED one seed = number_word ONE SEED one seed",
          "stays_below ONE SEED one seed first e s h = number_word ONE SEED one seed first e s (omega (arith, h))"),
     ]),
     # columns
     Change("all-work-open", "every word of the work is open to a column", [
-        ("columns/specs/Open.antt", "is_open claimed work k = nat_le claimed k && nat_lt k work", "is_open claimed work k = true"),
-        ("columns/specs/Open.antt", "Bool, false, ◌&&◌, List, length, nat_le, nat_lt, slice_index", "Bool, true, false, List, length, slice_index"),
-        ("columns/proofs/Open.antt", "closed_below : (claimed work k : ℕ) → k < claimed → is_open claimed work k ≡ false\n"
-         "closed_below claimed work k l = ap (λ (b : Bool). b && ltb k work) (lt-leb claimed k l)\n", ""),
-        ("columns/proofs/Open.antt", "closed claimed work k e l = ltb-false k work (sym (ap (λ (b : Bool). b && ltb k work) (le-leb claimed k l)) ∙ e)", "closed claimed work k e l = cc"),
-        ("columns/proofs/Open.antt", "pub claimed_stay : (claimed n : ℕ) (w w' : List ℕ) → OthersStay (is_open claimed n) w w' → take claimed w' ≡ take claimed w\n"
-         "claimed_stay claimed n w w' stay = take_same claimed w' w stay.0 (λ k l. stay.1 k (closed_below claimed n k l))\n", ""),
-        ("columns/proofs/Open.antt", "    by_place k shut (inl l) = closed_below at n k l\n", "    by_place k shut (inl l) = shut\n"),
-        ("columns/proofs/Open.antt", "        let past : n ≤ k = elim (cases_lt k claimed) [ inl m ↦ omega arith | inr m ↦ closed claimed n k shut m ] in\n"
-         "        ap (λ (b : Bool). b && ltb k n) (le-leb at k l) ∙ le-ltb k n past\n", "        shut\n"),
+        ("columns/specs/Open.antt",
+         "is_open claimed work k = nat_le claimed k && nat_lt k work",
+         "is_open claimed work k = true"),
+        ("columns/specs/Open.antt",
+         "Bool, false, ◌&&◌, List, length, nat_le, nat_lt, slice_index",
+         "Bool, true, false, List, length, slice_index"),
+        ("columns/proofs/Open.antt",
+         "closed_below : (claimed work k : ℕ) → k < claimed → is_open claimed work k ≡ false\n"
+         "closed_below claimed work k l = ap (λ (b : Bool). b && ltb k work) (lt-leb claimed k l)\n",
+         ""),
+        ("columns/proofs/Open.antt",
+         "closed claimed work k e l = ltb-false k work (sym (ap (λ (b : Bool). b && ltb k work) (le-leb claimed k "
+         "l)) ∙ e)",
+         "closed claimed work k e l = cc"),
+        ("columns/proofs/Open.antt",
+         "pub claimed_stay : (claimed n : ℕ) (w w' : List ℕ) → OthersStay (is_open claimed n) w w' → take claimed "
+         "w' ≡ take claimed w\n"
+         "claimed_stay claimed n w w' stay = take_same claimed w' w stay.0 (λ k l. stay.1 k (closed_below claimed "
+         "n k l))\n",
+         ""),
+        ("columns/proofs/Open.antt",
+         "    by_place k shut (inl l) = closed_below at n k l\n",
+         "    by_place k shut (inl l) = shut\n"),
+        ("columns/proofs/Open.antt",
+         "        let past : n ≤ k = elim (cases_lt k claimed) [ inl m ↦ omega arith | inr m ↦ closed claimed n k "
+         "shut m ] in\n        ap (λ (b : Bool). b && ltb k n) (le-leb at k l) ∙ le-ltb k n past\n",
+         "        shut\n"),
     ]),
     # runs
     Change("all-calls-open", "a call opens every word of the work", [
-        ("runs/specs/Open.antt", "opens (column c list lent) accepted k = is_open lent.claimed lent.work k\n", "opens (column c list lent) reply k = true\n"),
+        ("runs/specs/Open.antt",
+         "opens (column c list lent) accepted k = is_open lent.claimed lent.work k\n",
+         "opens (column c list lent) reply k = true\n"),
     ]),
     Change("none-combine", "no list of columns combines", [
         ("runs/specs/Apart.antt", "all_combine [] = true", "all_combine [] = false"),
@@ -240,27 +352,41 @@ CHANGES = [
     Change("list-columns-never-combine", "columns of lists, list views, fixed-size lists and maps do not combine", [
         ("runs/specs/Columns.antt", "combining first (ListOf w) = true", "combining first (ListOf w) = false"),
         ("runs/specs/Columns.antt", "combining first (ListView w) = true", "combining first (ListView w) = false"),
-        ("runs/specs/Columns.antt", "combining first (FixedSizeList p) = true", "combining first (FixedSizeList p) = false"),
+        ("runs/specs/Columns.antt",
+         "combining first (FixedSizeList p) = true",
+         "combining first (FixedSizeList p) = false"),
         ("runs/specs/Columns.antt", "combining first Map = true", "combining first Map = false"),
     ]),
     Change("dictionary-columns-never-combine", "a column of a dictionary does not combine", [
-        ("runs/specs/Columns.antt", "combining first rest = not first", "combining first (Dictionary w signed) = false\ncombining first rest = not first"),
+        ("runs/specs/Columns.antt",
+         "combining first rest = not first",
+         "combining first (Dictionary w signed) = false\ncombining first rest = not first"),
         ("runs/specs/Columns.antt", "{Number, Float, View, Struct,", "{Number, Float, View, Dictionary, Struct,"),
-        ("runs/proofs/Staying.antt", "unmarked_combines first (Dictionary w signed) bytes r down row at e = refer_combines first _ e", "unmarked_combines first (Dictionary w signed) bytes r down row at e = cc"),
+        ("runs/proofs/Staying.antt",
+         "unmarked_combines first (Dictionary w signed) bytes r down row at e = refer_combines first _ e",
+         "unmarked_combines first (Dictionary w signed) bytes r down row at e = cc"),
     ]),
     Change("never-enough", "enough entries before the keep: nobody has them", [
         ("runs/specs/Reordering.antt", "pub before : begun ≤ lent.entries", "pub before : begun < begun"),
     ]),
     Change("never-enough-work", "enough work for the keep: nobody has it", [
-        ("runs/specs/Reordering.antt", "pub keep : length l.rows ≤ unclaimed lent", "pub keep : (length l.rows ≤ unclaimed lent) × (unclaimed lent < unclaimed lent)"),
-        ("runs/proofs/Reordering.antt", "keep = omega (arith, e.keep, length-map rows earlier);", "keep = (omega (arith, e.keep.0, length-map rows earlier), e.keep.1);"),
+        ("runs/specs/Reordering.antt",
+         "pub keep : length l.rows ≤ unclaimed lent",
+         "pub keep : (length l.rows ≤ unclaimed lent) × (unclaimed lent < unclaimed lent)"),
+        ("runs/proofs/Reordering.antt",
+         "keep = omega (arith, e.keep, length-map rows earlier);",
+         "keep = (omega (arith, e.keep.0, length-map rows earlier), e.keep.1);"),
     ]),
     Change("same-rows-of-none", "the reordered calls leave the words of no row", [
         ("runs/specs/Reordering.antt", "(k : ℕ) → k < s'.rows →", "(k : ℕ) → k < 0 →"),
-        ("runs/proofs/Reordering.antt", "let there : k < length l.rows = omega (arith, h, b.rows) in", "let there : k < length l.rows = omega (arith, h) in"),
+        ("runs/proofs/Reordering.antt",
+         "let there : k < length l.rows = omega (arith, h, b.rows) in",
+         "let there : k < length l.rows = omega (arith, h) in"),
     ]),
     Change("follows-without-rows", "a call follows ledgers without rows", [
-        ("runs/specs/Agreement.antt", "(l : Ledger) → Agrees l s →", "(l : Ledger) → Agrees l s → length l.rows ≡ 0 →"),
+        ("runs/specs/Agreement.antt",
+         "(l : Ledger) → Agrees l s →",
+         "(l : Ledger) → Agrees l s → length l.rows ≡ 0 →"),
         ("runs/proofs/Agreeing.antt", "follows s q r s' p e l a =", "follows s q r s' p e l a none ="),
     ]),
     Change("lasts-before-begin", "what lasts over a list of calls does so after fewer than none", [
@@ -269,16 +395,27 @@ CHANGES = [
     ]),
     Change("list-before-its-length", "15 is asked before 14 of a column", [
         ("runs/specs/Refusals.antt",
-         "    cond (not (meeting_of height list == rows)) (Some 14)\n    (cond (not (list_below height list)) (Some 15)\n",
-         "    cond (not (list_below height list)) (Some 15)\n    (cond (not (meeting_of height list == rows)) (Some 14)\n"),
+         "    cond (not (meeting_of height list == rows)) (Some 14)\n"
+         "    (cond (not (list_below height list)) (Some 15)\n",
+         "    cond (not (list_below height list)) (Some 15)\n"
+         "    (cond (not (meeting_of height list == rows)) (Some 14)\n"),
         ("runs/src/judge.rt",
-         "cond (not (meeting_of height (list_of list.entry) == rows)) (Some 14) (cond (not (list_below height (list_of list.entry))) (Some 15) None)",
-         "cond (not (list_below height (list_of list.entry))) (Some 15) (cond (not (meeting_of height (list_of list.entry) == rows)) (Some 14) None)"),
-        ("runs/src/judge.rt", "    if list.len() != rows as usize {\n        return Err(RunFault::Length);\n    }\n    check_list(list, height)\n",
-         "    check_list(list, height)?;\n    if list.len() != rows as usize {\n        return Err(RunFault::Length);\n    }\n    Ok(())\n"),
-        ("runs/proofs/Going.antt", "    let f = passed _ 14 _ both.1 in\n    let g = passed _ 15 _ f.1 in\n    let h = passed _ 16 _ g.1 in\n",
-         "    let g = passed _ 15 _ both.1 in\n    let f = passed _ 14 _ g.1 in\n    let h = passed _ 16 _ f.1 in\n"),
-        ("runs/proofs/Reordering.antt", "(cond-false _ _ _ (ap not (eq-eqb _ _ g.as_many)) ∙ cond-false _ _ _ (ap not g.below) ∙",
+         "cond (not (meeting_of height (list_of list.entry) == rows)) (Some 14) (cond (not (list_below height "
+         "(list_of list.entry))) (Some 15) None)",
+         "cond (not (list_below height (list_of list.entry))) (Some 15) (cond (not (meeting_of height (list_of "
+         "list.entry) == rows)) (Some 14) None)"),
+        ("runs/src/judge.rt",
+         "    if list.len() != rows as usize {\n        return Err(RunFault::Length);\n    }\n"
+         "    check_list(list, height)\n",
+         "    check_list(list, height)?;\n    if list.len() != rows as usize {\n"
+         "        return Err(RunFault::Length);\n    }\n    Ok(())\n"),
+        ("runs/proofs/Going.antt",
+         "    let f = passed _ 14 _ both.1 in\n    let g = passed _ 15 _ f.1 in\n"
+         "    let h = passed _ 16 _ g.1 in\n",
+         "    let g = passed _ 15 _ both.1 in\n    let f = passed _ 14 _ g.1 in\n"
+         "    let h = passed _ 16 _ f.1 in\n"),
+        ("runs/proofs/Reordering.antt",
+         "(cond-false _ _ _ (ap not (eq-eqb _ _ g.as_many)) ∙ cond-false _ _ _ (ap not g.below) ∙",
          "(cond-false _ _ _ (ap not g.below) ∙ cond-false _ _ _ (ap not (eq-eqb _ _ g.as_many)) ∙"),
     ]),
 ]
@@ -289,7 +426,8 @@ class Copy:
 
     def __init__(self, folder):
         self.root = Path(folder)
-        listed = subprocess.run(["git", "ls-files", "-co", "--exclude-standard", "-z"], cwd=ROOT, check=True, capture_output=True, text=True)
+        asked = ["git", "ls-files", "-co", "--exclude-standard", "-z"]
+        listed = subprocess.run(asked, cwd=ROOT, check=True, capture_output=True, text=True)
         for name in listed.stdout.split("\0"):
             if name and (ROOT / name).is_file():
                 (self.root / name).parent.mkdir(parents=True, exist_ok=True)
@@ -333,7 +471,8 @@ def crates_of(copy):
 
 def check(copy, crate):
     """Whether a crate is proved; else the functions that are not, as far as the check says, and its first errors."""
-    done = subprocess.run(["rt", "check"], cwd=copy.root / "crates" / crate, stdin=subprocess.DEVNULL, capture_output=True, text=True)
+    folder = copy.root / "crates" / crate
+    done = subprocess.run(["rt", "check"], cwd=folder, stdin=subprocess.DEVNULL, capture_output=True, text=True)
     said = done.stdout + done.stderr
     unproved = re.findall(r"^fn (\S+): not proved", said, re.M)
     wrong = re.findall(r"^(?:\./)?(\S+?):\d+:\d+: error: `(.+?)`: ", said, re.M)
@@ -358,7 +497,7 @@ def speaking_of(copy, crate):
     found = []
     for module in re.findall(r"^pub mod (\w+);", (tables / "src/lib.rt").read_text(), re.M):
         cited = closed(set(cites.findall((tables / f"src/{module}.rt").read_text())))
-        named = {name for it in cited for name in re.findall(r"use Rattle\.(\w+)\.", specs[it])} & set(crates) - {"tables"}
+        named = {name for it in cited for name in re.findall(r"use Rattle\.(\w+)\.", specs[it])} - {"tables", "std"}
         below = named.union(*(crates[name] for name in named))
         if crate in below:
             found.append((len(below), module, cited, below))
@@ -374,10 +513,13 @@ def cut(copy, module, specs, below):
             kept = {"src": {module, "lib"}, "proofs": {module, "Lib"}, "specs": specs | {"Lib"}}[part]
             if stem not in kept:
                 copy.write(str(name), None)
-    for name, kept in [("src/lib.rt", rf"pub mod (?!{module};).*\n"), ("specs/Lib.antt", rf"pub mod (?!({'|'.join(specs)})\n).*\n")]:
-        path = f"crates/tables/{name}"
-        copy.write(path, re.sub(kept, "", (copy.root / path).read_text()))
-    copy.write("crates.txt", re.sub(r"tables:.*", "tables: " + " ".join(sorted(below)), (copy.root / "crates.txt").read_text()))
+    others = [
+        ("crates/tables/src/lib.rt", rf"pub mod (?!{module};).*\n", ""),
+        ("crates/tables/specs/Lib.antt", rf"pub mod (?!({'|'.join(specs)})\n).*\n", ""),
+        ("crates.txt", "tables:.*", "tables: " + " ".join(sorted(below))),
+    ]
+    for name, old, new in others:
+        copy.write(name, re.sub(old, new, (copy.root / name).read_text()))
 
 
 def stored(copy):
@@ -385,15 +527,17 @@ def stored(copy):
     for program, arguments in [("rowhash", ["--", "replay"]), ("vectors", [])]:
         folder = copy.root / "crates" / program
         data = [f"--data={file.name}={file}" for file in sorted(folder.glob("data/*"))]
-        done = subprocess.run(["rt", "try", "--seconds", "600", *data, *arguments], cwd=folder, stdin=open(folder / "stdin"), capture_output=True, text=True)
+        asked = (folder / "stdin").read_text()
+        done = subprocess.run(["rt", "try", "--seconds", "600", *data, *arguments],
+                              cwd=folder, input=asked, capture_output=True, text=True)
         if "run=ended" not in done.stdout + done.stderr:
             sys.exit(f"redefine: {program} does not end on its stored cases: {done.stderr[-500:]}")
-        asked = [line for line in (folder / "stdin").read_text().splitlines() if line and not line.startswith("#")]
-        wanted = (folder / "stdout").read_text().splitlines()
+        commands = [line for line in asked.splitlines() if line and not line.startswith("#")]
+        wanted, got = (folder / "stdout").read_text().splitlines(), done.stdout.splitlines()
         for number, line in enumerate(wanted):
-            got = dict(enumerate(done.stdout.splitlines())).get(number, "nothing")
-            if got != line:
-                return f"{program}: {asked[number][:60] if program == 'rowhash' else 'line'} .. is answered {got}, not {line}"
+            if number >= len(got) or got[number] != line:
+                case = commands[number][:60] if program == "rowhash" else f"line {number + 1}"
+                return f"{program}, a stored case: {case} .. gives {', '.join(got[number:number + 1])}, not {line}"
     return None
 
 
@@ -418,7 +562,7 @@ def noticed(copy, crate):
         if mine:
             return "; ".join(f"{name}: {', '.join(clauses(name, wrong))}" for name in sorted(mine))
         if not proved:
-            print(f"    {module} is not asked, since a crate below it is not proved: {', '.join(unproved) or said[-500:]}")
+            print(f"    {module} is not asked, since a crate below it is not proved: {unproved or said[-500:]}")
     return stored(copy)
 
 
