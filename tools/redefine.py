@@ -526,7 +526,7 @@ def stored(copy):
     """The first stored case of a program that comes out otherwise, if there is one."""
     for program, arguments in [("rowhash", ["--", "replay"]), ("vectors", [])]:
         folder = copy.root / "crates" / program
-        data = [f"--data={file.name}={file}" for file in sorted(folder.glob("data/*"))]
+        data = [part for file in sorted(folder.glob("data/*")) for part in ("--data", f"{file.name}={file}")]
         asked = (folder / "stdin").read_text()
         done = subprocess.run(["rt", "try", "--seconds", "600", *data, *arguments],
                               cwd=folder, input=asked, capture_output=True, text=True)
