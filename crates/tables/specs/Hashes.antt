@@ -1,6 +1,6 @@
 -- Hashes, and what values tell a hasher, as docs/ROW_NUMBERS.md says.
-use Rattle.std.specs.Prelude.{◌≡◌, ℕ, ◌-◌, ◌^◌, true, false, [], ◌∷◌, map, replicate}
-use Rattle.hash_state.specs.Combine.{C, OneToOne, later}
+use Rattle.std.specs.Prelude.{◌≡◌, ℕ, ◌+◌, ◌*◌, ◌-◌, ◌^◌, Bool, true, false, [], ◌∷◌, length, map, replicate, Some, None, Option}
+use Rattle.hash_state.specs.Combine.{C, OneToOne, entry_number, later}
 use Rattle.hash_state.specs.Fnv.{fnv1a, offset_basis}
 use Rattle.hash_state.specs.Sip.{siphash}
 use Rattle.hash_state.specs.Values.{binary, boolean, float, float_bits, nothing, number, seeded_float, text}
@@ -40,6 +40,14 @@ Combined =
 -- a later value seeds, or is combined with the entry, its own number on the left
 abbrev pub LaterValues : Type 0
 LaterValues = (later true 3 4 5 ∷ later false 3 4 5 ∷ []) ≡ (3 ∷ 23426 ∷ [])
+
+-- the number of a value that tells one word, and two under a seed, where ONE counts the writes and SEED adds ten for each to its seed
+abbrev pub counted : Option ℕ → Bool → ℕ
+counted before seeds = entry_number (λ ws. length ws) (λ s ws. s + 10 * length ws) before seeds (Word 1 0 ∷ []) (Word 1 0 ∷ Word 1 0 ∷ [])
+
+-- without an entry it is ONE, whether the value seeds or combines; from entry 5 it is SEED, or ONE combined with the entry
+abbrev pub EntryNumbers : Type 0
+EntryNumbers = (counted None true ∷ counted None false ∷ counted (Some 5) true ∷ counted (Some 5) false ∷ []) ≡ (1 ∷ 1 ∷ 25 ∷ 23315 ∷ [])
 
 -- two numbers apart stay so when they are combined with a third, on either side: those that FNV-1a has of "a" and "foobar", and the greatest word and the least
 abbrev pub CombinedApart : Type 0

@@ -1,6 +1,6 @@
 // Hashes and their writes, by their publications and docs/ROW_NUMBERS.md.
 ghost use Rattle.std.specs.Prelude.{◌≡◌, true};
-ghost use Rattle.tables.specs.Hashes.{Combined, CombinedApart, FloatBits, JoinedWrites, LaterValues, LongMessages, PublishedFnv, Told};
+ghost use Rattle.tables.specs.Hashes.{Combined, CombinedApart, EntryNumbers, FloatBits, JoinedWrites, LaterValues, LongMessages, PublishedFnv, Told};
 
 // Both hashes have their published numbers, long messages too, and each value tells its writes.
 pub fn hashes_hold() -> bool
@@ -9,6 +9,7 @@ pub fn hashes_hold() -> bool
     ensures fnv { PublishedFnv }
     ensures combined { Combined }
     ensures later { LaterValues }
+    ensures entries { EntryNumbers }
     ensures floats { FloatBits }
     ensures told { Told }
     ensures joined { JoinedWrites }

@@ -1,6 +1,6 @@
 use Rattle.std.proofs.Common.{refl}
 use Rattle.hash_state.specs.Sip.{compress, compressed, finalize, initial, le_number, parsed, sip_round, siphash, words}
-use Rattle.tables.specs.Hashes.{Combined, FloatBits, JoinedWrites, LaterValues, LongMessages, PublishedFnv, Told}
+use Rattle.tables.specs.Hashes.{Combined, EntryNumbers, FloatBits, JoinedWrites, LaterValues, LongMessages, PublishedFnv, Told}
 use Rattle.tables.proofs.hashes.hashes_hold.Goals as goal
 
 messages : LongMessages
@@ -15,6 +15,9 @@ combined = refl
 
 later : LaterValues
 later = refl
+
+entries : EntryNumbers
+entries = refl
 
 floats : FloatBits
 floats = refl
@@ -36,6 +39,9 @@ returns-clause-combined c = combined
 
 pub returns-clause-later : goal.returns-clause-later
 returns-clause-later c = later
+
+pub returns-clause-entries : goal.returns-clause-entries
+returns-clause-entries c = entries
 
 pub returns-clause-floats : goal.returns-clause-floats
 returns-clause-floats c = floats
