@@ -8,8 +8,9 @@ A contract says what a function does, and none says which functions there are. W
 to copy a run or to make one of any rows, is a name more: a function, a field that was private, a derive, an impl of a
 trait. So whoever adds one has to put it into the list, where it is read.
 
-Listed is all that is declared `pub` in a crate's src/, with the fields, cases and functions of types and traits, what
-`pub use` gives, and the traits that public types have, derived or written out. Programs have no users of their names.
+Listed is all that is declared `pub` in a crate's src/, with the fields of types, the cases with what they hold, the
+functions of types and traits, what `pub use` gives, the traits that public types have, derived or written out, and the
+ghost fields, which say what every value of a type keeps. Programs have no users of their names.
 """
 
 import difflib

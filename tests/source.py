@@ -150,12 +150,14 @@ class Source:
         return text
 
     def split(self, first, end):
-        """What commas part, between tokens."""
-        parts, began, depth = [], first, 0
+        """What commas part, between tokens: those that stand in no brackets, nor in angles out of brackets."""
+        parts, began, depth, angles = [], first, 0, 0
         for at in range(first, end):
             text = self.tokens[at].text
-            depth += (text in "([{<" and len(text) == 1) - (text in ")]}>" and len(text) == 1)
-            if text == "," and depth == 0:
+            depth += (text in OPENING) - (text in OPENING.values())
+            if depth == 0:
+                angles += (text == "<") - (text == ">")
+            if text == "," and depth == angles == 0:
                 parts.append((began, at))
                 began = at + 1
         return [part for part in [*parts, (began, end)] if part[0] < part[1]]
@@ -260,6 +262,7 @@ class Crate:
                 field = Part(source, first, end)
                 visible = self.read_visibility(field.skip_attributes())
                 if field.take("ghost"):
+                    self.items.append(Item(f"{path}.{field.name()}", source.said(first, end), public))
                     continue
                 name = field.name() if shape == "{" else str(index)
                 self.items.append(Item(f"{path}.{name}", "field", public and visible))
@@ -272,7 +275,8 @@ class Crate:
         for first, end in source.split(*source.group()):
             case = Part(source, first, end).skip_attributes()
             name = case.name()
-            self.items.append(Item(f"{path}::{name}", "case", public))
+            held = source.said(*case.group()) if case.peek() == "(" else ""
+            self.items.append(Item(f"{path}::{name}", f"case({held})" if held else "case", public))
             if case.peek() == "{":
                 for part in source.split(*case.group()):
                     field = Part(source, *part).skip_attributes()
@@ -304,7 +308,9 @@ class Crate:
         source.want("{")
         while not source.take("}"):
             while source.take("#"):
-                source.group()
+                first, _ = source.group()
+                if source.tokens[first].text == "cfg":
+                    source.fail("an item that is not always there")
             public = is_public(self.read_visibility(source))
             if source.begins_function():
                 function = self.read_function(source, owner, public)

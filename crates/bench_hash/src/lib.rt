@@ -15,7 +15,7 @@ use hash_state::{
 };
 
 // The hashes of the words below n, combined one after another. An exclusive or of them lets the compilers of both sides
-// hash two words at once, by instructions that take twice as long over them as one word after the other does.
+// hash two words at once, by instructions that take twice as long as one word after the other.
 fn words<S: BuildHasher>(state: &S, n: u64) -> u64
     ensures { result ≡ combined (λ i. S.BuildHasher.one state.now (number 8 i)) n }
 {

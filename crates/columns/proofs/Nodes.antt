@@ -126,11 +126,4 @@ module _ (n : Node) where
     where
       padded : (t : DataType) → bad_views (image_of n) t n.column.record ≡ false → Padded t (image_of n) n.column.record row
       padded View e = none_at n.column.record.rows (λ k. bad_view (image_of n) n.column.record k (view_place n.column.record k)) row e h
-      padded (Dictionary w signed) e = tt
-      padded Struct e = tt
-      padded (ListOf w) e = tt
-      padded (ListView w) e = tt
-      padded Map e = tt
-      padded (FixedSizeList p) e = tt
-      padded (RunEnd w) e = tt
       padded t e = tt

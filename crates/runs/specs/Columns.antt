@@ -48,7 +48,7 @@ abbrev pub list_below : ℕ → Option (List ℕ) → Bool
 list_below bound None = true
 list_below bound (Some list) = all_below bound list
 
--- the types whose columns combine: the number tells the entry that it came from. Those with child rows of their own always do, numbers, floats and views never; the rest do unless they are first
+-- the types whose columns combine: the number tells the entry that it came from. Structs, lists, list views, maps and fixed-size lists always do, numbers, floats and views never; the rest do unless they are first
 abbrev pub combining : Bool → DataType → Bool
 combining first (Number w) = false
 combining first (Float w) = false

@@ -43,9 +43,9 @@ fn lead_rows<S: HashState>(
 }
 
 impl NewRun {
-    // The first column: row j meets row list[j] of the node, or row j without a list, and word j of the entries, which
-    // the rows' numbers are, is led on by the slot there, as first. The need of the node is taken of the unclaimed
-    // work. It gives a begun run; with refusal 11, 13, 14, 15 or 16 it gives the new run back, and nothing has changed.
+    // The first column: row j meets row list[j] of the node, or row j without a list, and word j of the entries, which is
+    // the number of row j, is led on by the slot there, as first. The need of the node is taken of the unclaimed work. It
+    // gives a begun run; with refusal 11, 13, 14, 15 or 16 it gives the new run back, and nothing has changed.
     pub fn column<S: HashState>(
         self,
         selection: Selection<'_>,

@@ -1,5 +1,5 @@
 -- The laws of runs at a ledger, as docs/RUNS.md says.
-use Rattle.std.specs.Prelude.{◌≡◌, ℕ, true, List, [], ◌∷◌, take, slice_index, Some, None}
+use Rattle.std.specs.Prelude.{◌≡◌, ℕ, true, List, [], ◌∷◌, map, take, slice_index, Some, None}
 use Rattle.hash_state.specs.Writes.{Write}
 use Rattle.columns.specs.Open.{OthersStay}
 use Rattle.image.specs.Slot.{boolean, number, struct, done, ◌⨾◌}
@@ -67,7 +67,7 @@ KeptComesAgain =
     × (replies ONE SEED start again ≡ accepted ∷ accepted ∷ accepted ∷ [])
     × ((steps ONE SEED start again).rows ≡ 3)
     × ((steps ONE SEED start again).count ≡ 2)
-    × (slice_index (steps ONE SEED start again).words 2 ≡ ledger.number ONE SEED (row 0 7))
+    × (map (slice_index (steps ONE SEED start again).words) (0 ∷ 1 ∷ 2 ∷ []) ≡ map (ledger.number ONE SEED) kept.rows)
 
 -- under every state, that rows stay apart says so of rows 0 and 1, which began apart, and of rows 0 and 2, which did not
 abbrev pub KeptApart : Type 0

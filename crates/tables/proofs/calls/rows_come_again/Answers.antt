@@ -1,4 +1,4 @@
-use Rattle.std.proofs.Common.{arith, lit<, lit≤, refl}
+use Rattle.std.proofs.Common.{◌∷◌, ap₂, arith, lit<, lit≤, refl}
 use Rattle.tables.specs.Ledgers.{KeptApart, KeptComesAgain, KeptRows, RoomIsEnough, kept, room}
 use Rattle.runs.specs.Reordering.{Enough}
 use Rattle.tables.proofs.calls.rows_come_again.Goals as goal
@@ -13,7 +13,10 @@ room_is_enough : RoomIsEnough
 room_is_enough = (refl, enough)
 
 again : KeptComesAgain
-again ONE SEED law = let come = law room enough in (come.answered, come.ledger, come.replied, come.same.rows, come.same.count, come.same.words 2 (lit< tt))
+again ONE SEED law =
+    let come = law room enough in
+    let words = ap₂ ◌∷◌ (come.same.words 0 (lit< tt)) (ap₂ ◌∷◌ (come.same.words 1 (lit< tt)) (ap₂ ◌∷◌ (come.same.words 2 (lit< tt)) refl)) in
+    (come.answered, come.ledger, come.replied, come.same.rows, come.same.count, words)
 
 apart : KeptApart
 apart ONE SEED law = (λ e. omega (arith, (law refl 0 1 (lit< tt) (lit< tt) refl).0 e), (law refl 0 2 (lit< tt) (lit< tt) refl).1 refl)
