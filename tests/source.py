@@ -326,7 +326,7 @@ class Crate:
                 self.items.append(Item(path, what, public))
 
     def read_function(self, source, owner, public):
-        """A function with its clauses; what stands in its body is looked through for loops alone."""
+        """A function with its clauses; its body is looked through for loops, and for functions in it, which are an error."""
         while not source.take("fn"):
             source.next()
         path = f"{owner}::{source.name()}"
@@ -343,6 +343,8 @@ class Crate:
         if not source.take(";"):
             first, end = source.group()
             words = [token.text for token in source.tokens[first:end]]
+            if "fn" in words:
+                source.fail(f"a function in the body of {path}")
             loops = sum(word in ("for", "while", "loop") for word in words)
         found = Function(path, public, parameters, clauses, source.last_line() - began + 1, loops)
         self.functions.append(found)

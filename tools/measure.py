@@ -7,8 +7,8 @@
 Where crates are named, it measures these and those that they stand on.
 
 A crate's seconds are the processor's, of all processes that took part in `rt ci NAME` once the crates below it were
-proved: its proof, its must-fail edits, its tests and its runs. They differ little between a busy machine and an idle
-one, or with the number of cores, where the time that somebody waits for them does. N crates that do not stand on one
+proved: its proof, its must-fail edits, its tests and its runs. They depend less on the number of cores and on what else
+the machine does than the time that somebody waits for them: by up to a sixth. N crates that do not stand on one
 another are measured side by side, one if N is not given.
 
 What earlier runs on the machine proved is not used: the commit is copied into a folder of its own, and a comment that
