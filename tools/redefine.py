@@ -1,19 +1,22 @@
 #!/usr/bin/env python3
 """Changes definitions together with their code, as one who misreads a rule would, and says what notices each.
 
-    tools/redefine.py [--list] [NAME ..]
+    tools/redefine.py [--list | --texts] [NAME ..]
 
 A contract binds code to a definition, and says nothing where both are changed. Each change below is such a one: texts of
 specs/, src/ and proofs/ of one crate, changed until the crate was proved again. They are applied one at a time to a copy
 of the repository's files. Then, in this order,
 
-- the changed crate is checked: most are proved as before; some cannot be, and the line says where;
+- the changed crate is checked: most are proved as before; where functions are not, the line names them. A change that
+  does not compile, or whose definitions are not admitted, shows nothing: the script ends with what the check says;
 - the modules of `tables` that speak of the crate are checked, the one that stands on the fewest crates first: each is
   computed lines and proved cases. Only the crates that it speaks of are checked below it;
 - if all of that is proved, the programs are run on their stored cases, unproved, and what they print is compared.
 
 A line is printed for each change: its name, and what noticed it, or NOT NOTICED; then the status is 1. --list prints
-the changes and checks nothing; NAMEs are those to try, all if none is given. The longest check takes some minutes.
+the changes and checks nothing. --texts proves nothing: it looks whether each text that a change replaces stands in its
+file as often as the change says, and prints how many do; where one does not, it is printed and the status is 1. NAMEs
+are the changes to try, all if none is given. The longest check takes some minutes.
 """
 
 import argparse
@@ -339,8 +342,14 @@ CHANGES = [
     # runs
     Change("all-calls-open", "a call opens every word of the work", [
         ("runs/specs/Open.antt",
-         "opens (column c list lent) accepted k = is_open lent.claimed lent.work k\n",
-         "opens (column c list lent) reply k = true\n"),
+         "opens (column c list lent) accepted k = is_open lent.claimed lent.work k\n"
+         "opens (keep list lent) accepted k = is_open lent.claimed lent.work k\n"
+         "opens request reply k = false\n",
+         "opens request reply k = true\n"),
+        ("runs/specs/Open.antt", "{ℕ, Bool, false,", "{ℕ, Bool, true, false,"),
+    ]),
+    Change("refused-calls-open", "a refused column or keep opens the words that it was lent too", [
+        ("runs/specs/Open.antt", "lent) accepted k = is_open", "lent) reply k = is_open", 2),
     ]),
     Change("none-combine", "no list of columns combines", [
         ("runs/specs/Apart.antt", "all_combine [] = true", "all_combine [] = false"),
@@ -469,6 +478,24 @@ def crates_of(copy):
     return {name.split()[0]: below.split() for name, colon, below in lines if colon and not name.startswith("#")}
 
 
+def stale(change):
+    """The texts of a change that do not stand in their files as often as it says, each after those before it."""
+    texts, found = {}, []
+    for name, old, new, *times in change.texts:
+        path = ROOT / "crates" / name
+        if name not in texts:
+            texts[name] = path.read_text() if path.is_file() else None
+        text, wanted = texts[name], times[0] if times else 1
+        if not old:
+            found += [] if text is None else [f"{name} is there already"]
+            texts[name] = new
+        elif text is None or text.count(old) != wanted:
+            found.append(f"{text.count(old) if text else 0} times in {name}, not {wanted}: {old}")
+        else:
+            texts[name] = text.replace(old, new)
+    return found
+
+
 def check(copy, crate):
     """Whether a crate is proved; else the functions that are not, as far as the check says, and its first errors."""
     folder = copy.root / "crates" / crate
@@ -547,12 +574,19 @@ def clauses(function, wrong):
     return dict.fromkeys(name for file, name in wrong if file.startswith(folder))
 
 
+def first_errors(said):
+    """The first errors of a check, or the end of what it says."""
+    lines = [line for line in said.splitlines() if "error" in line]
+    return "\n".join(lines[:5]) or said[-500:]
+
+
 def noticed(copy, crate):
     """What notices that a crate is changed, or None."""
     proved, unproved, wrong, said = check(copy, crate)
     if not proved:
-        lines = COMPUTED & set(unproved)
-        return ", ".join(sorted(lines)) if lines else f"its own crate: {', '.join(unproved) or wrong or said[-500:]}"
+        if not unproved or re.search(r"^(?:\./)?specs/\S+: error: ", said, re.M):
+            sys.exit(f"redefine: {crate} cannot be checked with the change:\n{first_errors(said)}")
+        return ", ".join(sorted(COMPUTED & set(unproved))) or f"its own crate: {', '.join(unproved)}"
     for _, module, specs, below in speaking_of(copy, crate):
         before = set(copy.before)
         cut(copy, module, specs, below)
@@ -568,7 +602,9 @@ def noticed(copy, crate):
 
 def main():
     parser = argparse.ArgumentParser(usage=__doc__)
-    parser.add_argument("--list", action="store_true")
+    only = parser.add_mutually_exclusive_group()
+    only.add_argument("--list", action="store_true")
+    only.add_argument("--texts", action="store_true")
     parser.add_argument("names", nargs="*")
     asked = parser.parse_args()
     chosen = [change for change in CHANGES if not asked.names or change.name in asked.names]
@@ -578,6 +614,12 @@ def main():
     if asked.list:
         for change in chosen:
             print(f"{change.name}: {change.says}")
+        return
+    if asked.texts:
+        lost = [f"redefine: {change.name}: {text}" for change in chosen for text in stale(change)]
+        if lost:
+            sys.exit("\n".join(lost))
+        print(f"redefine: {sum(len(change.texts) for change in chosen)} texts of {len(chosen)} changes stand")
         return
     missed = 0
     with tempfile.TemporaryDirectory() as folder:
