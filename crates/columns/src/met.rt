@@ -109,11 +109,11 @@ impl Fold<'_, '_, '_> {
 
     // The number of a row of the span, from its word; a row that is marked null keeps it. Rows are of the size of
     // places here, so that a row's element is found by no cast.
-    fn number<A: NestedArray>(self, array: &A, row: usize, e: u64) -> u64
-        requires covered { (self.span.from ≤ row) × (row < self.span.from + self.span.size) }
-        requires column { A.NestedArray.column array.now ≡ self.met.node.column }
-        requires kind { A.NestedArray.data_type array.now ≡ self.met.node.t }
-        ensures { result ≡ folded_number self.entry e row }
+    fn number<A: NestedArray>(&self, array: &A, row: usize, e: u64) -> u64
+        requires covered { (self.now.span.from ≤ row) × (row < self.now.span.from + self.now.span.size) }
+        requires column { A.NestedArray.column array.now ≡ self.now.met.node.column }
+        requires kind { A.NestedArray.data_type array.now ≡ self.now.met.node.t }
+        ensures { result ≡ folded_number self.now e row }
     {
         if self.met.node.is_marked(row as u32) {
             return e;
@@ -126,17 +126,17 @@ impl Fold<'_, '_, '_> {
     // closure whose contract speaks of writes and of regions alike. Words are lent apart from what they are folded by,
     // so no field can say how many there are.
     fn fold_each<A: NestedArray, F: Fn(usize) -> usize + Drop>(
-        self,
+        &self,
         array: &A,
         row_at: F,
         words: &mut [u64],
     )
-        requires words { length words.old ≡ self.met.n }
-        requires column { A.NestedArray.column array.now ≡ self.met.node.column }
-        requires kind { A.NestedArray.data_type array.now ≡ self.met.node.t }
+        requires words { length words.old ≡ self.now.met.n }
+        requires column { A.NestedArray.column array.now ≡ self.now.met.node.column }
+        requires kind { A.NestedArray.data_type array.now ≡ self.now.met.node.t }
         requires callable { (j : ℕ) → j < length words.old → F.pre row_at j }
-        requires rows { (j row : ℕ) → j < length words.old → F.post row_at j row → row ≡ row_met self.met j }
-        ensures { words.new ≡ folded_words self.entry words.old }
+        requires rows { (j row : ℕ) → j < length words.old → F.post row_at j row → row ≡ row_met self.now.met j }
+        ensures { words.new ≡ folded_words self.now words.old }
     {
         for (j, word) in words.iter_mut().enumerate() {
             *word = self.number(array, row_at(j), *word);
@@ -145,35 +145,35 @@ impl Fold<'_, '_, '_> {
 
     // Folds the child rows' numbers into the words, by one kind of column: a loop for a list and a loop without one, so
     // that no row looks for the list.
-    fn fold_array<A: NestedArray + Drop>(self, array: A, words: &mut [u64])
-        requires words { length words.old ≡ self.met.n }
-        requires column { A.NestedArray.column array ≡ self.met.node.column }
-        requires kind { A.NestedArray.data_type array ≡ self.met.node.t }
-        ensures { words.new ≡ folded_words self.entry words.old }
+    fn fold_array<A: NestedArray>(&self, array: &A, words: &mut [u64])
+        requires words { length words.old ≡ self.now.met.n }
+        requires column { A.NestedArray.column array.now ≡ self.now.met.node.column }
+        requires kind { A.NestedArray.data_type array.now ≡ self.now.met.node.t }
+        ensures { words.new ≡ folded_words self.now words.old }
     {
         let lo = self.met.rows.lo as usize;
         let Some(list) = self.met.rows.list else {
-            self.fold_each(&array, |j| lo + j, words);
+            self.fold_each(array, |j| lo + j, words);
             return;
         };
-        self.fold_each(&array, |j| list[j] as usize, words);
+        self.fold_each(array, |j| list[j] as usize, words);
     }
 
     // The same of lists, by offsets of one type.
-    fn fold_offsets<O: Wide + Drop>(self, words: &mut [u64])
-        requires words { length words.old ≡ self.met.n }
-        requires kind { self.met.node.t ≡ ListOf O.Native.width }
-        ensures { words.new ≡ folded_words self.entry words.old }
+    fn fold_offsets<O: Wide + Drop>(&self, words: &mut [u64])
+        requires words { length words.old ≡ self.now.met.n }
+        requires kind { self.now.met.node.t ≡ ListOf O.Native.width }
+        ensures { words.new ≡ folded_words self.now words.old }
     {
         let column = self.met.node.column;
         let offsets = PhantomData::<O>;
-        self.fold_array(ListArray { column, offsets }, words);
+        self.fold_array(&ListArray { column, offsets }, words);
     }
 
-    fn fold_list(self, width: Width, words: &mut [u64])
-        requires words { length words.old ≡ self.met.n }
-        requires kind { self.met.node.t ≡ ListOf width }
-        ensures { words.new ≡ folded_words self.entry words.old }
+    fn fold_list(&self, width: Width, words: &mut [u64])
+        requires words { length words.old ≡ self.now.met.n }
+        requires kind { self.now.met.node.t ≡ ListOf width }
+        ensures { words.new ≡ folded_words self.now words.old }
     {
         match width {
             Width::One => self.fold_offsets::<u8>(words),
@@ -185,10 +185,10 @@ impl Fold<'_, '_, '_> {
 
     // The same of a dictionary by keys of one type. Its numbers begin at the first value: the 0 says so to the
     // compiler, so that no row takes it off.
-    fn fold_keys<K: Wide + Drop>(self, signed: bool, words: &mut [u64])
-        requires words { length words.old ≡ self.met.n }
-        requires kind { self.met.node.t ≡ Dictionary K.Native.width signed }
-        ensures { words.new ≡ folded_words self.entry words.old }
+    fn fold_keys<K: Wide + Drop>(&self, signed: bool, words: &mut [u64])
+        requires words { length words.old ≡ self.now.met.n }
+        requires kind { self.now.met.node.t ≡ Dictionary K.Native.width signed }
+        ensures { words.new ≡ folded_words self.now words.old }
     {
         let rows = References::of(&self.met.node);
         let region = Region {
@@ -201,13 +201,13 @@ impl Fold<'_, '_, '_> {
             region,
         };
         let keys = PhantomData::<K>;
-        fold.fold_array(DictionaryArray { rows, keys, signed }, words);
+        fold.fold_array(&DictionaryArray { rows, keys, signed }, words);
     }
 
-    fn fold_dictionary(self, width: Width, signed: bool, words: &mut [u64])
-        requires words { length words.old ≡ self.met.n }
-        requires kind { self.met.node.t ≡ Dictionary width signed }
-        ensures { words.new ≡ folded_words self.entry words.old }
+    fn fold_dictionary(&self, width: Width, signed: bool, words: &mut [u64])
+        requires words { length words.old ≡ self.now.met.n }
+        requires kind { self.now.met.node.t ≡ Dictionary width signed }
+        ensures { words.new ≡ folded_words self.now words.old }
     {
         match width {
             Width::One => self.fold_keys::<u8>(signed, words),
@@ -218,27 +218,27 @@ impl Fold<'_, '_, '_> {
     }
 
     // The same by the kind that the column is of.
-    fn fold(self, words: &mut [u64])
-        requires nested { is_leaf self.met.node.t ≡ false }
-        requires words { length words.old ≡ self.met.n }
-        ensures { words.new ≡ folded_words self.entry words.old }
+    fn fold(&self, words: &mut [u64])
+        requires nested { is_leaf self.now.met.node.t ≡ false }
+        requires words { length words.old ≡ self.now.met.n }
+        ensures { words.new ≡ folded_words self.now words.old }
     {
         let node = self.met.node;
         let column = node.column;
         match node.t {
-            DataType::Struct => self.fold_array(StructArray(column), words),
+            DataType::Struct => self.fold_array(&StructArray(column), words),
             DataType::List(width) => self.fold_list(width, words),
-            DataType::ListView(width) => self.fold_array(ListViewArray { column, width }, words),
-            DataType::Map => self.fold_array(MapArray(column), words),
+            DataType::ListView(width) => self.fold_array(&ListViewArray { column, width }, words),
+            DataType::Map => self.fold_array(&MapArray(column), words),
             DataType::FixedSizeList(size) => {
-                self.fold_array(FixedSizeListArray { column, size }, words)
+                self.fold_array(&FixedSizeListArray { column, size }, words)
             }
             DataType::Dictionary(width, signed) => self.fold_dictionary(width, signed, words),
             DataType::RunEnd(width) => {
                 let rows = References::of(&node);
                 let ends = node.run_ends(width);
                 let before = Cell::new(0);
-                self.fold_array(RunArray { rows, ends, before }, words)
+                self.fold_array(&RunArray { rows, ends, before }, words)
             }
             _ => unreachable(),
         }
@@ -252,7 +252,9 @@ impl Fold<'_, '_, '_> {
         if self.met.node.is_leaf() {
             self.met.hash_leaf(state, words);
         } else {
-            self.fold(words);
+            // a copy of its own to lend, so that for a leaf nothing has to stand in memory
+            let nested = self;
+            nested.fold(words);
         }
     }
 }

@@ -19,6 +19,10 @@ fn leave<S: HashState>(node: &Node<'_>, job: Job, state: &S, work: &mut [u64])
     requires room { job.at + job.n + region node.now.t node.now.column.bytes.now node.now.column.record job.lo job.n ≤ length work.old }
     ensures { work.new ≡ ended (S.BuildHasher.one state.now) (S.HashState.seeded state.now) node.now.column.bytes.now node.now.t node.now.column.record job work.old }
 {
+    // a node without a row is visited once for each path to it, and begins nothing
+    if job.n == 0 {
+        return;
+    }
     let met = Met {
         node: *node,
         rows: Rows {

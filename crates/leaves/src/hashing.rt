@@ -60,7 +60,8 @@ impl<'a, S: HashState> Hashing<'a, '_, S> {
     {
         let lo = self.rows.lo;
         let Some(list) = self.rows.list else {
-            self.each(reader, |j| lo + j as u32, entries);
+            // it never saturates; a plain sum lets LLVM hash two numbers of 4 bytes a turn, which takes longer than one by one
+            self.each(reader, |j| lo.saturating_add(j as u32), entries);
             return;
         };
         self.each(reader, |j| list[j], entries);

@@ -67,8 +67,14 @@ impl<'a> Session<'a> {
         run: &mut Run,
         input: &mut BufReader<Stdin>,
     ) -> io::Result<Option<Vec<u8>>> {
-        for line in input.split(self.rt.alloc(), b'\n') {
-            let bytes = self.answer_line(run, line?.as_slice())?;
+        // one buffer for all lines: `split` allocates one for each, which takes longer than most lines themselves
+        let mut line = Vec::new(self.rt.alloc());
+        for _ in 0..u64::MAX {
+            line.clear();
+            if input.read_until(b'\n', &mut line)? == 0 {
+                break;
+            }
+            let bytes = self.answer_line(run, line.as_slice())?;
             if bytes.is_some() {
                 return Ok(bytes);
             }

@@ -1,4 +1,5 @@
-use Rattle.std.proofs.Common.{ℕ, ◌+◌, List, get_or, refl, ap, ◌∙◌, ap₂, arith}
+use Rattle.std.proofs.Common.{◌≡◌, ℕ, ◌+◌, List, ◌++◌, get_or, take, drop, sym, refl, ap, ◌∙◌, ap₂, arith}
+use Rattle.std.proofs.lemmas.List.{take-append-drop}
 use Rattle.columns.specs.Jobs.{each, ended, words_at, reach_from, region, row_by, splice, standing}
 use Rattle.columns.proofs.Meeting.{split_splice}
 use Rattle.columns.proofs.Nodes.{node_short}
@@ -13,6 +14,16 @@ invariant_of-met g c =
       low = omega (arith, c.requires.rows);
       fits = omega (arith, c.requires.rows, few.0);
     }
+
+-- nothing stands in place of no words
+spliced_none : (at n : ℕ) (f : ℕ → ℕ) (w : List ℕ) → n ≡ 0 → w ≡ splice at n w (each f n)
+spliced_none at n f w none =
+    let here : at + 0 ≡ at = omega arith in
+    sym (ap (λ (m : ℕ). splice at m w (each f m)) none ∙ ap (λ (k : ℕ). take at w ++ drop k w) here ∙ take-append-drop at w)
+
+pub returns-then-job-eq0 : goal.returns-then-job-eq0
+unfolding ended
+returns-then-job-eq0 g c = spliced_none c.args.job.at c.args.job.n _ c.args.work.now c.if-job-eq0.true
 
 pub returns : goal.returns
 unfolding ended

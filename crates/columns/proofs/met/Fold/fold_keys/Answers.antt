@@ -9,11 +9,11 @@ use Rattle.columns.proofs.Nodes.{refers_to_child}
 use Rattle.columns.proofs.met.Fold.fold_keys.Goals as goal
 
 pub of-rows-requires : goal.of-rows-requires
-of-rows-requires g c = refers_to_child c.args.self.met.node (Dictionary g.K.Native.width c.args.signed) c.requires.kind refl (λ one. omega arith)
+of-rows-requires g c = refers_to_child c.args.self.now.met.node (Dictionary g.K.Native.width c.args.signed) c.requires.kind refl (λ one. omega arith)
 
 pub returns : goal.returns
 returns g c =
-    let s = c.args.self in
+    let s = c.args.self.now in
     let n = s.met.node in
     let from : s.region.from ≡ 0 = s.from ∙ ap (λ (t : DataType). reach_from t n.column.bytes.now n.column.record s.span.from) c.requires.kind in
     c.fold_array.ensures

@@ -8,7 +8,7 @@ use Rattle.columns.proofs.met.Fold.number.Goals as goal
 
 pub fold-requires : goal.fold-requires
 fold-requires g c =
-    let s = c.args.self in
+    let s = c.args.self.now in
     let n = s.met.node in
     let row : ℕ = c.args.row in
     let few = node_short n in
@@ -23,3 +23,15 @@ fold-requires g c =
           (subst (λ (x : Column). FoldThere n.t x.bytes.now x.record (n.column.record.start + row) s.region.from (length s.region.numbers.now)) (sym c.requires.column) there));
       small = omega (arith, s.within, c.requires.covered.1, few.0, few.1);
     }
+
+pub overflow_cast-row : goal.overflow_cast-row
+overflow_cast-row g c =
+    let s = c.args.self.now in
+    let few = node_short s.met.node in
+    omega (arith, s.within, c.requires.covered.1, few.0, few.1)
+
+pub overflow_add-at : goal.overflow_add-at
+overflow_add-at g c =
+    let s = c.args.self.now in
+    let few = node_short s.met.node in
+    omega (arith, s.within, c.requires.covered.1, few.0, few.1)
