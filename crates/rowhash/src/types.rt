@@ -12,10 +12,13 @@ struct Size(Width);
 
 impl fmt::Display for Size {
     fn fmt<W: fmt::Write>(&self, f: &mut fmt::Formatter<W>) -> fmt::Result {
-        match self.0.bytes() {
-            1 => f.write_str("1 byte"),
-            count => write!(f, "{count} bytes"),
-        }
+        // as they stand: to print the number takes a fifth of the time that a row of a dictionary is shown in
+        f.write_str(match self.0 {
+            Width::One => "1 byte",
+            Width::Two => "2 bytes",
+            Width::Four => "4 bytes",
+            Width::Eight => "8 bytes",
+        })
     }
 }
 
